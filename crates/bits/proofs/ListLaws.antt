@@ -1,0 +1,86 @@
+-- What the tests of a whole list say of its entries. Assumes nothing.
+use mathlib.Core.Path.{_≡_, refl, sym}
+use mathlib.Core.Bool.{Bool, true, false, _&&_, _||_, false≢true, and-assoc}
+use mathlib.Core.List.{List, [], _∷_, _++_}
+use Prim.Native.Nat.{ℕ, zero, suc, suc-le-suc, _<_}
+use native.Mathlib.Nat.{not-suc-le-zero, zero-lt-suc, le-of-suc-le-suc, lt-trans}
+use lib.Dec.{eqb, ltb}
+use lib.ListN.{length, getD}
+use borrow.Author.Tests.{eqb-true, ltb-true}
+use Rattle.bits.specs.Tests.{every, member}
+use Rattle.bits.proofs.TestLaws.{both-left, both-right, or-cases}
+
+pub every-at : (f : ℕ → Bool) (s : List ℕ) → every f s ≡ true → (k : ℕ) → k < length s
+    → f (getD s k 0) ≡ true
+every-at f [] h k l = absurd (not-suc-le-zero l)
+every-at f (x ∷ s) h zero l = both-left (f x) (every f s) h
+every-at f (x ∷ s) h (suc k) l = every-at f s (both-right (f x) (every f s) h) k (le-of-suc-le-suc l)
+
+pub every-append : (f : ℕ → Bool) (xs ys : List ℕ) → every f (xs ++ ys) ≡ every f xs && every f ys
+every-append f [] ys = refl
+every-append f (x ∷ xs) ys = rw (every-append f xs ys) (sym (and-assoc (f x) (every f xs) (every f ys)))
+
+pub every-after : (f : ℕ → Bool) (s t : List ℕ) → every f (s ++ t) ≡ true → every f t ≡ true
+every-after f [] t h = h
+every-after f (x ∷ s) t h = every-after f s t (both-right (f x) (every f (s ++ t)) h)
+
+pub every-before : (f : ℕ → Bool) (s t : List ℕ) → every f (s ++ t) ≡ true → every f s ≡ true
+every-before f s t h = both-left _ _ (rw (every-append f s t) at h)
+
+pub every-implied : (f g : ℕ → Bool) → ((x : ℕ) → f x ≡ true → g x ≡ true)
+    → (s : List ℕ) → every f s ≡ true → every g s ≡ true
+every-implied f g implies [] h = refl
+every-implied f g implies (x ∷ s) h =
+    rw (implies x (both-left _ _ h)) (every-implied f g implies s (both-right (f x) _ h))
+
+-- x stands in the list at some place
+abbrev pub Stands : ℕ → List ℕ → Type 0
+Stands x s = (k : ℕ) × (k < length s) × (getD s k 0 ≡ x)
+
+pub member-at : (v : ℕ) (s : List ℕ) → member v s ≡ true → Stands v s
+member-at v [] h = absurd (false≢true h)
+member-at v (x ∷ s) h =
+    or-cases (eqb v x) (member v s) (Stands v (x ∷ s)) h
+    (λ here. let same : v ≡ x = eqb-true v x here in (0, zero-lt-suc (length s), cc))
+    (λ there. let rest = member-at v s there in (suc (rest .0), suc-le-suc (rest .1), rest .2))
+
+-- f strictly rises along the list, and is above low
+module _ (f : ℕ → ℕ) where
+  abbrev pub rises : ℕ → List ℕ → Bool
+  rises low [] = true
+  rises low (x ∷ s) = ltb low (f x) && rises (f x) s
+
+  first-above : (low x : ℕ) (s : List ℕ) → rises low (x ∷ s) ≡ true → low < f x
+  first-above low x s h = ltb-true low (f x) (both-left (ltb low (f x)) (rises (f x) s) h)
+
+  rest-rises : (low x : ℕ) (s : List ℕ) → rises low (x ∷ s) ≡ true → rises (f x) s ≡ true
+  rest-rises low x s h = both-right (ltb low (f x)) (rises (f x) s) h
+
+  above : (low : ℕ) (s : List ℕ) → rises low s ≡ true → (k : ℕ) → k < length s → low < f (getD s k 0)
+  above low [] h k l = absurd (not-suc-le-zero l)
+  above low (x ∷ s) h zero l = first-above low x s h
+  above low (x ∷ s) h (suc k) l =
+      lt-trans (first-above low x s h) (above (f x) s (rest-rises low x s h) k (le-of-suc-le-suc l))
+
+  pub rises-at : (low : ℕ) (s : List ℕ) → rises low s ≡ true
+      → (i j : ℕ) → i < j → j < length s → f (getD s i 0) < f (getD s j 0)
+  rises-at low [] h i j l m = absurd (not-suc-le-zero m)
+  rises-at low (x ∷ s) h i zero l m = absurd (not-suc-le-zero l)
+  rises-at low (x ∷ s) h zero (suc j) l m = above (f x) s (rest-rises low x s h) j (le-of-suc-le-suc m)
+  rises-at low (x ∷ s) h (suc i) (suc j) l m =
+      rises-at (f x) s (rest-rises low x s h) i j (le-of-suc-le-suc l) (le-of-suc-le-suc m)
+
+-- two lists have the same entries
+abbrev pub alike : List ℕ → List ℕ → Bool
+alike [] [] = true
+alike [] (y ∷ t) = false
+alike (x ∷ s) [] = false
+alike (x ∷ s) (y ∷ t) = eqb x y && alike s t
+
+pub alike-eq : (s t : List ℕ) → alike s t ≡ true → s ≡ t
+alike-eq [] [] h = refl
+alike-eq [] (y ∷ t) h = cc
+alike-eq (x ∷ s) [] h = cc
+alike-eq (x ∷ s) (y ∷ t) h =
+    let heads = eqb-true x y (both-left (eqb x y) (alike s t) h) in
+    cc (heads, alike-eq s t (both-right (eqb x y) (alike s t) h))

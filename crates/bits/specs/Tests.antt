@@ -1,0 +1,30 @@
+-- Tests that compute. Assumes nothing.
+use Prim.Native.Nat.{ℕ, zero, suc, _+_}
+use mathlib.Core.Bool.{Bool, true, false, _&&_, _||_}
+use mathlib.Core.List.{List, [], _∷_}
+use lib.Dec.{eqb}
+
+-- a if the test holds, else b
+abbrev pub pick : {A : Type 0} → Bool → A → A → A
+pick true a b = a
+pick false a b = b
+
+-- f holds of every number below n
+abbrev pub below : (ℕ → Bool) → ℕ → Bool
+below f zero = true
+below f (suc n) = f n && below f n
+
+-- how many numbers below n f holds of
+abbrev pub count : (ℕ → Bool) → ℕ → ℕ
+count f zero = 0
+count f (suc n) = pick (f n) 1 0 + count f n
+
+-- f holds of every number of the list
+abbrev pub every : (ℕ → Bool) → List ℕ → Bool
+every f [] = true
+every f (x ∷ xs) = f x && every f xs
+
+-- v is in the list
+abbrev pub member : ℕ → List ℕ → Bool
+member v [] = false
+member v (x ∷ xs) = eqb v x || member v xs

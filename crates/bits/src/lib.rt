@@ -1,0 +1,38 @@
+// Leaves over bits and fields, by shifts and masks. Each accepts every input; what lies past an end or
+// a width reads 0 or is cut by the mask that the promise names.
+ghost use mathlib.Core.Path.{_≡_};
+ghost use Prim.Native.Nat.{_+_, _*_, _/_, _%_, _^_};
+ghost use Rattle.bits.specs.Bits.{nibble};
+
+// Field i of 4 bits.
+pub fn nibble(s: &[u8], i: usize) -> u8
+    ensures { λ r. ⌜ r ≡ nibble (now (s .entry)) i ⌝ }
+{
+    let k = i >> 1;
+    if s.len() <= k {
+        return 0;
+    }
+    let x = s[k];
+    if i & 1 == 0 { (x >> 4) & 15 } else { x & 15 }
+}
+
+// A byte of two fields.
+pub fn join4(high: u8, low: u8) -> u8
+    ensures { λ r. ⌜ r ≡ high % 16 * 16 + low % 16 ⌝ }
+{
+    ((high & 15) << 4) | (low & 15)
+}
+
+// Sixteen bits of two bytes.
+pub fn join8(high: u8, low: u8) -> u16
+    ensures { λ r. ⌜ r ≡ high * 256 + low ⌝ }
+{
+    ((high as u16) << 8) | (low as u16)
+}
+
+// The field of 4 bits that stands k bits above the units bit.
+pub fn field(x: u16, k: u16) -> u8
+    ensures { λ r. ⌜ r ≡ x / 2 ^ (k % 16) % 16 ⌝ }
+{
+    ((x >> (k & 15)) & 15) as u8
+}

@@ -1,0 +1,5 @@
+-- Laws of the meaning. Assumes nothing.
+pub mod RefusalLaws
+pub mod AnswerLaws
+pub mod TidyLaws
+pub mod LetterLaws

@@ -1,0 +1,39 @@
+-- What a block computes, in the form F(X) = C(A, B, xc) of source 000, equation 7. Assumes nothing.
+use Prim.Native.Nat.{ℕ, _+_, _*_, _^_, _<_}
+use mathlib.Core.Path.{_≡_}
+use mathlib.Core.List.{List, [], _∷_}
+use lib.ListN.{length}
+use Rattle.bits.specs.Bits.{rowOf}
+use Rattle.bits.specs.Tests.{pick}
+use Rattle.block.specs.Table.{variableAt, tableRows, tableBit}
+use Rattle.block.specs.Block.{Lut, Block, isOpen}
+
+-- the level of an open pin
+abbrev pub openLevel : ℕ
+openLevel = 0
+
+-- what a pin reads in row r
+unfoldable pub pinValue : ℕ → ℕ → ℕ
+pinValue r pin = pick (isOpen pin) openLevel (variableAt r pin)
+
+-- the table row that the pins select in row r: a pin weighs 2 to the number of pins after it, so four
+-- pins weigh 8, 4, 2, 1
+unfoldable pub selected : ℕ → List ℕ → ℕ
+selected r [] = 0
+selected r (pin ∷ pins) = pinValue r pin * 2 ^ length pins + selected r pins
+
+-- A, and likewise B: the output of a table with pins
+unfoldable pub lutValue : Lut → ℕ → ℕ
+lutValue t r = rowOf (2 ^ length (t .pins)) (t .rows) (selected r (t .pins))
+
+-- C: table H, in which F weighs 4, G 2 and the direct pin 1
+unfoldable pub hValue : ℕ → ℕ → ℕ → ℕ → ℕ
+hValue h a b xc = rowOf 8 h (4 * a + 2 * b + xc)
+
+-- F(X) = C(A(X_A), B(X_B), xc)
+unfoldable pub blockValue : Block → ℕ → ℕ
+blockValue b r = hValue (b .h) (lutValue (b .f) r) (lutValue (b .g) r) (pinValue r (b .direct))
+
+-- the block computes the table of n inputs on every row
+pub record Computes (n : ℕ) (t : List ℕ) (b : Block) : Type 0 where
+  pub every-row : (r : ℕ) → r < tableRows n → blockValue b r ≡ tableBit t r

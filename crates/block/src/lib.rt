@@ -1,0 +1,78 @@
+// What passes between the layers: a block in numbers, a type, the refusals, and the answer of a writer.
+// Their meaning stands in specs/.
+
+ghost use mathlib.Core.Path.{_≡_};
+ghost use Rattle.block.specs.Refusal.{numberOf};
+
+// A four-pin table, F or G: its pin fields from the first pin on, and its sixteen rows.
+pub struct FourPin {
+    pub a: u8,
+    pub b: u8,
+    pub c: u8,
+    pub d: u8,
+    pub rows: u16,
+}
+
+// Nine pin fields and three tables.
+pub struct Parts {
+    pub f: FourPin,
+    pub g: FourPin,
+    pub direct: u8,
+    pub h: u8,
+}
+
+pub enum Letter {
+    A,
+    B,
+    C,
+}
+
+// The type of a block: `type` is no name in Rattle.
+pub struct Kind {
+    pub letter: Letter,
+    pub digit: u8,
+}
+
+// The numbered refusals of document 01.
+pub enum Refusal {
+    R1,
+    R2,
+    R3,
+    R4,
+    R5,
+    R6,
+    R7,
+    R8,
+    R9,
+    R10,
+    R11,
+    R12,
+    R13,
+}
+
+// The answer of a writer.
+pub enum Written {
+    Length(usize),
+    Refused(Refusal),
+}
+
+// A refusal's number.
+pub fn number(k: Refusal) -> u8
+    ensures { λ r. ⌜ r ≡ numberOf k ⌝ }
+{
+    match k {
+        Refusal::R1 => 1,
+        Refusal::R2 => 2,
+        Refusal::R3 => 3,
+        Refusal::R4 => 4,
+        Refusal::R5 => 5,
+        Refusal::R6 => 6,
+        Refusal::R7 => 7,
+        Refusal::R8 => 8,
+        Refusal::R9 => 9,
+        Refusal::R10 => 10,
+        Refusal::R11 => 11,
+        Refusal::R12 => 12,
+        Refusal::R13 => 13,
+    }
+}

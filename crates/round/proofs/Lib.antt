@@ -1,0 +1,5 @@
+-- The round trips. Assumes nothing.
+pub mod FieldTrip
+pub mod RoundLaws
+pub mod PackedLaws
+pub mod OrderLaws

@@ -1,0 +1,3 @@
+-- The laws of the table of sets. Assumes nothing.
+pub mod MaskLaws
+pub mod PinLaws

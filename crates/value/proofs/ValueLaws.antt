@@ -1,0 +1,31 @@
+-- Values as the code adds them up. Assumes nothing.
+use mathlib.Core.Path.{_≡_, refl, sym, ap, _∙_}
+use mathlib.Core.List.{List, [], _∷_}
+use Prim.Native.Nat.{ℕ, _+_, _-_, _*_, _/_, _%_, _^_}
+use native.Mathlib.Omega.{arith}
+use lib.Bits.{bitAnd, and-mask}
+use Rattle.bits.specs.Bits.{rowOf}
+use Rattle.block.specs.declared.FourPin.{FourPin}
+use Rattle.block.specs.declared.Parts.{Parts}
+use Rattle.block.specs.Code.{lutOf, blockOf}
+use Rattle.block.specs.Value.{pinValue, selected, lutValue, hValue, blockValue}
+
+-- four pins weigh 8, 4, 2, 1
+pub four-weights : (r a b c d : ℕ)
+    → 8 * pinValue r a + 4 * pinValue r b + 2 * pinValue r c + pinValue r d ≡ selected r (a ∷ b ∷ c ∷ d ∷ [])
+unfolding selected
+four-weights r a b c d = omega arith
+
+pub lut-row : (t : FourPin) (r : ℕ)
+    → rowOf 16 (t .rows)
+    (8 * pinValue r (t .a) + 4 * pinValue r (t .b) + 2 * pinValue r (t .c) + pinValue r (t .d))
+    ≡ lutValue (lutOf t) r
+unfolding lutValue
+lut-row t r = ap (rowOf 16 (t .rows)) (four-weights r (t .a) (t .b) (t .c) (t .d))
+
+pub h-row : (x : Parts) (r : ℕ)
+    → bitAnd
+    (x .h / 2 ^ (7 - (4 * lutValue (lutOf (x .f)) r + 2 * lutValue (lutOf (x .g)) r + pinValue r (x .direct)))) 1
+    ≡ blockValue (blockOf x) r
+unfolding blockValue hValue
+h-row x r = and-mask _ 1

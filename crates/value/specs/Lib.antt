@@ -1,0 +1,2 @@
+-- The evaluator's refusals and answers. Assumes nothing.
+pub mod Evaluate

@@ -1,0 +1,2 @@
+-- The worked examples hold. Assumes nothing.
+pub mod Shown

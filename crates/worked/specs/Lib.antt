@@ -1,0 +1,2 @@
+-- The worked examples. Assumes nothing.
+pub mod Worked
