@@ -1,10 +1,10 @@
 -- A mask of rows: `x & mask == 0` says that every row that the mask marks is 0 in x. Assumes nothing.
-use mathlib.Core.Path.{_≡_, refl, sym, ap, ap₂, _∙_}
+use mathlib.Core.Path.{_≡_, refl, sym, ap, _∙_}
 use mathlib.Core.Bool.{Bool, true, false, _||_}
-use Prim.Native.Nat.{ℕ, zero, suc, _+_, _-_, _*_, _/_, _%_, _^_, _<_, _≤_, min}
+use Prim.Native.Nat.{ℕ, zero, suc, _+_, _-_, _*_, _/_, _%_, _^_, _<_, min}
 use native.Mathlib.Nat.{zero-div}
 use native.Mathlib.Omega.{arith}
-use lib.Bits.{bitAnd, bitOr, and-mask, or-shifted, and-step, and-shr, and-le-l}
+use lib.Bits.{bitAnd, bitOr, and-mask, mask-lt, or-shifted, and-step, and-shr, and-le-l}
 use lib.Dec.{eqb}
 use lib.Pow.{shl-exact, shr-shr}
 use borrow.Author.Tests.{eq-eqb, eqb-true, eqb-false}
@@ -72,6 +72,13 @@ module _ (w x mask : ℕ) (fits : x < 2 ^ w) where
 
   pub masked : eqb (bitAnd x mask) 0 ≡ below (clear w x mask) w
   masked = same-test (eqb (bitAnd x mask) 0) (below (clear w x mask) w) all-clear none-common
+
+-- a field taken out by a shift and a mask
+pub field-fits : (x : ℕ) → bitAnd x 15 < 256
+field-fits x = omega (arith, mask-lt x 4)
+
+pub field-of : (x k : ℕ) → bitAnd (x / 2 ^ bitAnd k 15) 15 ≡ x / 2 ^ (k % 16) % 16
+field-of x k = rw (and-mask k 4) (and-mask (x / 2 ^ (k % 16)) 4)
 
 -- fields and bytes joined by a shift and `|`: what is shifted has no bit in common with the other
 pub joined-fields : (high low : ℕ)

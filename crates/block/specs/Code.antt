@@ -1,6 +1,5 @@
 -- The block that the code's numbers stand for. Assumes nothing.
-use Prim.Native.Nat.{ℕ}
-use mathlib.Core.List.{List, [], _∷_}
+use mathlib.Core.List.{[], _∷_}
 use Rattle.block.specs.declared.FourPin.{FourPin}
 use Rattle.block.specs.declared.Parts.{Parts}
 use Rattle.block.specs.Block.{Lut, Block}

@@ -5,7 +5,7 @@ use Prim.Native.Nat.{ℕ, _≤_}
 use Rattle.block.specs.declared.Parts.{Parts}
 use Rattle.block.specs.Block.{Block}
 use Rattle.block.specs.Code.{blockOf}
-use Rattle.block.specs.Tidy.{fieldsFit, Tidy}
+use Rattle.block.specs.Tidy.{Tidy}
 use Rattle.codec.specs.declared.Unpacked.{Unpacked}
 use Rattle.codec.specs.declared.Unpacked.the-variants as unpacked
 use Rattle.codec.specs.Ten.{unpackOf, FieldsOfFour}

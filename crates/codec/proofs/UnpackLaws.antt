@@ -10,7 +10,7 @@ use Rattle.block.specs.declared.Parts.{Parts}
 use Rattle.block.specs.Block.{Lut, Block}
 use Rattle.block.specs.Code.{blockOf, zeroBlock}
 use Rattle.block.specs.Refusal.{numberOf}
-use Rattle.block.specs.Answer.{Answer, answer, answered}
+use Rattle.block.specs.Answer.{Answer, answer}
 use Rattle.block.proofs.RefusalLaws.{at-refusal, number-injective}
 use Rattle.block.proofs.AnswerLaws.{never-refused, answered-number, answered-parts}
 use Rattle.codec.specs.declared.Checked.{Checked}

@@ -10,7 +10,7 @@ use Rattle.block.specs.declared.Parts.{Parts}
 use Rattle.block.specs.Block.{Block, Device}
 use Rattle.block.specs.Code.{blockOf}
 use Rattle.block.specs.Table.{tableRows}
-use Rattle.block.specs.Tidy.{fieldsFit, Tidy}
+use Rattle.block.specs.Tidy.{fieldsFit}
 use Rattle.block.specs.Value.{blockValue}
 use Rattle.block.specs.Answer.{answer}
 use Rattle.codec.specs.Ten.{packOf, unpackOf, lastBits, FieldsOfFour}

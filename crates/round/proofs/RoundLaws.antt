@@ -1,17 +1,16 @@
 -- Unpacking what was packed gives the same fields and tables, and accepted bytes repack to themselves.
 -- Assumes nothing.
-use mathlib.Core.Path.{_≡_, refl, sym, ap, _∙_}
+use mathlib.Core.Path.{_≡_, sym, ap, _∙_}
 use mathlib.Core.List.{List, [], _∷_, _++_}
-use Prim.Native.Nat.{ℕ, suc, _+_, _*_, _/_, _%_, _<_, _≤_}
+use Prim.Native.Nat.{ℕ, suc, _+_, _*_, _/_, _%_, _<_}
 use native.Mathlib.Omega.{arith}
 use lib.ListN.{length, getD}
 use Rattle.bits.specs.Bits.{nibble, nibbles, joined, split, bytesOf}
-use Rattle.block.specs.declared.FourPin.{FourPin}
 use Rattle.block.specs.declared.Parts.{Parts}
-use Rattle.block.specs.Block.{Lut, Block, FourPins, Device}
-use Rattle.block.specs.Code.{lutOf, blockOf}
-use Rattle.codec.specs.Ten.{packOf, fieldsOf, unpackOf, lastBits, FourBits, FieldsOfFour}
-use Rattle.codec.proofs.UnpackLaws.{fourOf, partsOf}
+use Rattle.block.specs.Block.{Block, Device}
+use Rattle.block.specs.Code.{blockOf}
+use Rattle.codec.specs.Ten.{packOf, fieldsOf, unpackOf, lastBits, FieldsOfFour}
+use Rattle.codec.proofs.UnpackLaws.{partsOf}
 use Rattle.round.specs.Bytes.{Bytes}
 use Rattle.round.proofs.FieldTrip.{high-field, low-field, same-byte, joined-split, split-four}
 use Rattle.round.proofs.FieldTrip.{split-two, four-of, ten-of}

@@ -4,7 +4,6 @@ use mathlib.Core.List.{List, [], _∷_}
 use Prim.Native.Nat.{ℕ, _<_, _≤_}
 use borrow.Author.Tests.{lt-ltb, le-ltb}
 use Rattle.block.specs.declared.Refusal.{Refusal}
-use Rattle.block.specs.Block.{Block}
 use Rattle.block.specs.Table.{tableRows}
 use Rattle.block.specs.Value.{blockValue}
 use Rattle.block.specs.Refusal.{_when_, numberOf}

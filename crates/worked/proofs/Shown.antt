@@ -1,15 +1,14 @@
 -- P1 to P12 hold, by one test that antt computes over their table. Assumes nothing.
-use Prim.Native.Nat.{ℕ, _<_}
+use Prim.Native.Nat.{ℕ}
 use mathlib.Core.Path.{_≡_, refl}
-use mathlib.Core.Bool.{Bool, true, false, _&&_}
+use mathlib.Core.Bool.{Bool, true, _&&_}
 use mathlib.Core.List.{List, [], _∷_}
 use lib.Dec.{eqb}
 use borrow.Author.Tests.{eqb-true}
 use Rattle.bits.specs.Tests.{below}
 use Rattle.bits.proofs.TestLaws.{both-left, both-right, below-at}
-use Rattle.block.specs.declared.Letter.{Letter}
 use Rattle.block.specs.Table.{tableRows, tableBit}
-use Rattle.block.specs.Value.{pinValue, selected, lutValue, hValue, blockValue, Computes}
+use Rattle.block.specs.Value.{pinValue, selected, lutValue, hValue, blockValue}
 use Rattle.block.specs.Tidy.{fieldsFit, ordered, unreadable, quiet, rowsQuiet}
 use Rattle.block.specs.Kind.{carries, letterCode, letterOf, digitOf}
 use Rattle.block.specs.Refusal.{tableRefusal}
@@ -17,7 +16,7 @@ use Rattle.block.proofs.LetterLaws.{letterCode-injective}
 use Rattle.codec.specs.Ten.{unpackOf}
 use Rattle.codec.specs.Check.{checkRefusal}
 use Rattle.codec.proofs.CheckLaws.{accepted-of-none}
-use Rattle.worked.specs.Worked.{Example, matches, noTable, noBlock, Shows, Holds, AllHold}
+use Rattle.worked.specs.Worked.{Example, matches, noTable, noBlock, Holds, AllHold}
 use Rattle.worked.specs.Worked.{examples}
 
 abbrev agrees : List ℕ → List ℕ → ℕ → Bool

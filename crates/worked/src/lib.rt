@@ -1,2 +1,1 @@
 // The worked examples P1 to P12 of document 01, shown of the definitions: no code.
-ghost use Rattle.worked.specs.Worked.{AllHold};

@@ -16,9 +16,6 @@ returns c =
     let i = c .before .args .i in
     rw (List·getD-eq-default s 0 {n = i / 2} (c .if1 .taken), zero-div)
 
-shared-slice-read-x : tie.Need-shared-slice-read-x
-shared-slice-read-x c = search needs
-
 returns-2 : tie.Need-returns-2
 returns-2 c =
     let i = c .before .before .before .args .i in
@@ -32,4 +29,4 @@ returns-3 c =
     rw (odd, and-mask (getD (c .before .before .before .args .s .now) (i / 2) 0) 4) (omega arith)
 
 pub nibble-spec : {M : Type 1} → statement M
-nibble-spec = tie.close (tie.spec returns shared-slice-read-x returns-2 returns-3)
+nibble-spec = tie.close (tie.spec returns (search needs) returns-2 returns-3)

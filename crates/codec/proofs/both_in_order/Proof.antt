@@ -3,14 +3,8 @@ use borrow.Author.Needs.{needs}
 use Rattle.codec.proofs.both_in_order.Statement.{statement}
 use Rattle.codec.proofs.both_in_order.Tie as tie
 
-in-order-requires : tie.Need-in-order-requires
-in-order-requires c κs = search needs
-
-in-order-requires-2 : tie.Need-in-order-requires-2
-in-order-requires-2 c κs = search needs
-
 returns : tie.Need-returns
 returns c = rw (c .before .in-order .ensures, c .in-order2 .ensures)
 
 pub both-in-order-spec : {M : Type 1} → statement M
-both-in-order-spec = tie.close (tie.spec in-order-requires in-order-requires-2 returns)
+both-in-order-spec = tie.close (tie.spec (search needs) (search needs) returns)

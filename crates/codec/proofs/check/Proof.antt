@@ -6,15 +6,6 @@ use Rattle.codec.proofs.OpenedLaws.{opened}
 use Rattle.codec.proofs.check.Statement.{statement}
 use Rattle.codec.proofs.check.Tie as tie
 
-unpack-requires : tie.Need-unpack-requires
-unpack-requires c κs = search needs
-
-enum-known-unpacked : tie.Need-enum-known-unpacked
-enum-known-unpacked c = search needs
-
-enum-told : tie.Need-enum-told
-enum-told c = search needs
-
 returns : tie.Need-returns
 returns c =
     refused-by _ _ _ _ (c .before .unpacked .given .1) (c .before .before .before .unpack .ensures)
@@ -24,4 +15,4 @@ returns-2 c =
     sym (opened _ _ _ _ (c .enum-told .given .1) (c .before .before .unpack .ensures) .none)
 
 pub check-spec : {M : Type 1} → statement M
-check-spec = tie.close (tie.spec unpack-requires enum-known-unpacked enum-told returns returns-2)
+check-spec = tie.close (tie.spec (search needs) (search needs) (search needs) returns returns-2)

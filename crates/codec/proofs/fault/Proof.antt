@@ -20,24 +20,15 @@ in-order c =
     let called = c .before .both-in-order in
     sym (called .ensures) ∙ not-false (called .result) (c .if2 .left)
 
-fields-fit-requires : tie.Need-fields-fit-requires
-fields-fit-requires c κs = search needs
-
 returns : tie.Need-returns
 returns c =
     let called = c .before .fields-fit in
     refuses-6 _ _ (sym (called .ensures) ∙ not-true (called .result) (c .if1 .taken))
 
-both-in-order-requires : tie.Need-both-in-order-requires
-both-in-order-requires c κs = search needs
-
 returns-2 : tie.Need-returns-2
 returns-2 c =
     refuses-7 _ _ (fits (c .before .before))
     (sym (c .before .both-in-order .ensures) ∙ not-true (c .before .both-in-order .result) (c .if2 .taken))
-
-rows-quiet-requires : tie.Need-rows-quiet-requires
-rows-quiet-requires c κs = search needs
 
 returns-3 : tie.Need-returns-3
 returns-3 c =
@@ -55,10 +46,10 @@ pub fault-spec : {M : Type 1} → statement M
 fault-spec =
     tie.close
     (tie.spec
-    fields-fit-requires
+    (search needs)
     returns
-    both-in-order-requires
+    (search needs)
     returns-2
-    rows-quiet-requires
+    (search needs)
     returns-3
     returns-4)

@@ -6,15 +6,6 @@ use borrow.Author.Needs.{needs}
 use Rattle.codec.proofs.fields_fit.Statement.{statement}
 use Rattle.codec.proofs.fields_fit.Tie as tie
 
-four-fit-requires : tie.Need-four-fit-requires
-four-fit-requires c κs = search needs
-
-four-fit-requires-2 : tie.Need-four-fit-requires-2
-four-fit-requires-2 c κs = search needs
-
-field-fits-requires : tie.Need-field-fits-requires
-field-fits-requires c κs = search needs
-
 returns : tie.Need-returns
 returns c =
     let a = c .before .before .before .before .before .args in
@@ -23,4 +14,4 @@ returns c =
 
 pub fields-fit-spec : {M : Type 1} → statement M
 fields-fit-spec =
-    tie.close (tie.spec four-fit-requires four-fit-requires-2 field-fits-requires returns)
+    tie.close (tie.spec (search needs) (search needs) (search needs) returns)

@@ -6,18 +6,6 @@ use borrow.Author.Needs.{needs}
 use Rattle.codec.proofs.four_fit.Statement.{statement}
 use Rattle.codec.proofs.four_fit.Tie as tie
 
-field-fits-requires : tie.Need-field-fits-requires
-field-fits-requires c κs = search needs
-
-field-fits-requires-2 : tie.Need-field-fits-requires-2
-field-fits-requires-2 c κs = search needs
-
-field-fits-requires-3 : tie.Need-field-fits-requires-3
-field-fits-requires-3 c κs = search needs
-
-field-fits-requires-4 : tie.Need-field-fits-requires-4
-field-fits-requires-4 c κs = search needs
-
 returns : tie.Need-returns
 returns c =
     let a = c .before .before .before .before .args in
@@ -33,8 +21,8 @@ pub four-fit-spec : {M : Type 1} → statement M
 four-fit-spec =
     tie.close
     (tie.spec
-    field-fits-requires
-    field-fits-requires-2
-    field-fits-requires-3
-    field-fits-requires-4
+    (search needs)
+    (search needs)
+    (search needs)
+    (search needs)
     returns)

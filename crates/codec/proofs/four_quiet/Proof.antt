@@ -6,18 +6,6 @@ use borrow.Author.Needs.{needs}
 use Rattle.codec.proofs.four_quiet.Statement.{statement}
 use Rattle.codec.proofs.four_quiet.Tie as tie
 
-pin-quiet-requires : tie.Need-pin-quiet-requires
-pin-quiet-requires c κs = search needs
-
-pin-quiet-requires-2 : tie.Need-pin-quiet-requires-2
-pin-quiet-requires-2 c κs = search needs
-
-pin-quiet-requires-3 : tie.Need-pin-quiet-requires-3
-pin-quiet-requires-3 c κs = search needs
-
-pin-quiet-requires-4 : tie.Need-pin-quiet-requires-4
-pin-quiet-requires-4 c κs = search needs
-
 returns : tie.Need-returns
 returns c =
     let t = c .before .before .before .before .args .t in
@@ -33,8 +21,8 @@ pub four-quiet-spec : {M : Type 1} → statement M
 four-quiet-spec =
     tie.close
     (tie.spec
-    pin-quiet-requires
-    pin-quiet-requires-2
-    pin-quiet-requires-3
-    pin-quiet-requires-4
+    (search needs)
+    (search needs)
+    (search needs)
+    (search needs)
     returns)

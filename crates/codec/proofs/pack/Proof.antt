@@ -22,22 +22,10 @@ accepted-parts c =
     packable-of-none _ _ _
     (sym (c .before .before .packable .ensures) ∙ ap checkedOf (c .enum-told .given .1))
 
-packable-requires : tie.Need-packable-requires
-packable-requires c κs = search needs
-
-enum-known-found : tie.Need-enum-known-found
-enum-known-found c = search needs
-
-enum-told : tie.Need-enum-told
-enum-told c = search needs
-
 ten-requires : tie.Need-ten-requires
 ten-requires c κs =
     let start = c .before .before .before .before in
     fields-of-four _ (start .args .x) (accepted-parts c .within) (accepted-parts c .tidy .fields)
-
-slice-aggregate-copy : tie.Need-slice-aggregate-copy
-slice-aggregate-copy c = search needs
 
 copy-requires : tie.Need-copy-requires
 copy-requires c κs =
@@ -53,9 +41,6 @@ returns c =
     writes-refused (c .before .found .given .0 .0) _ _ _
     (ap checkedOf (sym (c .before .found .given .1)) ∙ c .before .before .before .packable .ensures)
 
-same-length : tie.Need-same-length
-same-length c = search needs
-
 returns-2 : tie.Need-returns-2
 unfolding packOf
 returns-2 c =
@@ -69,12 +54,12 @@ pub pack-spec : {M : Type 1} → statement M
 pack-spec =
     tie.close
     (tie.spec
-    packable-requires
-    enum-known-found
-    enum-told
+    (search needs)
+    (search needs)
+    (search needs)
     ten-requires
-    slice-aggregate-copy
+    (search needs)
     copy-requires
     returns
-    same-length
+    (search needs)
     returns-2)

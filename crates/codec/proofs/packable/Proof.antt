@@ -1,5 +1,5 @@
 -- `codec::packable` meets its contract: each test decides one line of the list. Assumes nothing.
-use mathlib.Core.Path.{_≡_, sym, ap, _∙_}
+use mathlib.Core.Path.{sym, ap, _∙_}
 use Rattle.codec.specs.Answers.{checkedOf}
 use Rattle.codec.proofs.PackLaws.{pack-refuses-1, pack-refuses-tidy, pack-refuses-5}
 use Rattle.codec.proofs.PackLaws.{pack-accepts}
@@ -9,15 +9,6 @@ use Rattle.codec.proofs.packable.Tie as tie
 
 returns : tie.Need-returns
 returns c = pack-refuses-1 _ _ _ (c .if1 .taken)
-
-fault-requires : tie.Need-fault-requires
-fault-requires c κs = search needs
-
-enum-known-found : tie.Need-enum-known-found
-enum-known-found c = search needs
-
-enum-told : tie.Need-enum-told
-enum-told c = search needs
 
 returns-2 : tie.Need-returns-2
 returns-2 c =
@@ -40,4 +31,4 @@ returns-4 c =
 pub packable-spec : {M : Type 1} → statement M
 packable-spec =
     tie.close
-    (tie.spec returns fault-requires enum-known-found enum-told returns-2 returns-3 returns-4)
+    (tie.spec returns (search needs) (search needs) (search needs) returns-2 returns-3 returns-4)

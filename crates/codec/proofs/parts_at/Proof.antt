@@ -8,24 +8,6 @@ use borrow.Author.Needs.{needs}
 use Rattle.codec.proofs.parts_at.Statement.{statement}
 use Rattle.codec.proofs.parts_at.Tie as tie
 
-four-pin-at-requires : tie.Need-four-pin-at-requires
-four-pin-at-requires c κs = search needs
-
-four-pin-at-requires-2 : tie.Need-four-pin-at-requires-2
-four-pin-at-requires-2 c κs = search needs
-
-nibble-requires : tie.Need-nibble-requires
-nibble-requires c κs = search needs
-
-nibble-requires-2 : tie.Need-nibble-requires-2
-nibble-requires-2 c κs = search needs
-
-nibble-requires-3 : tie.Need-nibble-requires-3
-nibble-requires-3 c κs = search needs
-
-join4-requires : tie.Need-join4-requires
-join4-requires c κs = search needs
-
 returns : tie.Need-returns
 unfolding unpackOf
 returns c =
@@ -39,10 +21,10 @@ pub parts-at-spec : {M : Type 1} → statement M
 parts-at-spec =
     tie.close
     (tie.spec
-    four-pin-at-requires
-    four-pin-at-requires-2
-    nibble-requires
-    nibble-requires-2
-    nibble-requires-3
-    join4-requires
+    (search needs)
+    (search needs)
+    (search needs)
+    (search needs)
+    (search needs)
+    (search needs)
     returns)

@@ -6,36 +6,6 @@ use borrow.Author.Needs.{needs}
 use Rattle.codec.proofs.rows_at.Statement.{statement}
 use Rattle.codec.proofs.rows_at.Tie as tie
 
-nibble-requires : tie.Need-nibble-requires
-nibble-requires c κs = search needs
-
-add-nibble : tie.Need-add-nibble
-add-nibble c = search needs
-
-nibble-requires-2 : tie.Need-nibble-requires-2
-nibble-requires-2 c κs = search needs
-
-join4-requires : tie.Need-join4-requires
-join4-requires c κs = search needs
-
-add-nibble-2 : tie.Need-add-nibble-2
-add-nibble-2 c = search needs
-
-nibble-requires-3 : tie.Need-nibble-requires-3
-nibble-requires-3 c κs = search needs
-
-add-nibble-3 : tie.Need-add-nibble-3
-add-nibble-3 c = search needs
-
-nibble-requires-4 : tie.Need-nibble-requires-4
-nibble-requires-4 c κs = search needs
-
-join4-requires-2 : tie.Need-join4-requires-2
-join4-requires-2 c κs = search needs
-
-join8-requires : tie.Need-join8-requires
-join8-requires c κs = search needs
-
 returns : tie.Need-returns
 returns c =
     let low = c .before .before .before in
@@ -55,14 +25,14 @@ pub rows-at-spec : {M : Type 1} → statement M
 rows-at-spec =
     tie.close
     (tie.spec
-    nibble-requires
-    add-nibble
-    nibble-requires-2
-    join4-requires
-    add-nibble-2
-    nibble-requires-3
-    add-nibble-3
-    nibble-requires-4
-    join4-requires-2
-    join8-requires
+    (search needs)
+    (search needs)
+    (search needs)
+    (search needs)
+    (search needs)
+    (search needs)
+    (search needs)
+    (search needs)
+    (search needs)
+    (search needs)
     returns)

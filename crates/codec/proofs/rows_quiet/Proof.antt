@@ -6,18 +6,6 @@ use borrow.Author.Needs.{needs}
 use Rattle.codec.proofs.rows_quiet.Statement.{statement}
 use Rattle.codec.proofs.rows_quiet.Tie as tie
 
-four-quiet-requires : tie.Need-four-quiet-requires
-four-quiet-requires c κs = search needs
-
-four-quiet-requires-2 : tie.Need-four-quiet-requires-2
-four-quiet-requires-2 c κs = search needs
-
-cast-pin-quiet : tie.Need-cast-pin-quiet
-cast-pin-quiet c = search needs
-
-pin-quiet-requires : tie.Need-pin-quiet-requires
-pin-quiet-requires c κs = search needs
-
 returns : tie.Need-returns
 unfolding rowsQuiet
 returns c =
@@ -32,4 +20,4 @@ returns c =
 pub rows-quiet-spec : {M : Type 1} → statement M
 rows-quiet-spec =
     tie.close
-    (tie.spec four-quiet-requires four-quiet-requires-2 cast-pin-quiet pin-quiet-requires returns)
+    (tie.spec (search needs) (search needs) (search needs) (search needs) returns)

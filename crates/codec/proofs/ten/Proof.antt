@@ -4,57 +4,6 @@ use borrow.Author.Needs.{needs}
 use Rattle.codec.proofs.ten.Statement.{statement}
 use Rattle.codec.proofs.ten.Tie as tie
 
-cast-h : tie.Need-cast-h
-cast-h c = search needs
-
-field-requires : tie.Need-field-requires
-field-requires c κs = search needs
-
-join4-requires : tie.Need-join4-requires
-join4-requires c κs = search needs
-
-field-requires-2 : tie.Need-field-requires-2
-field-requires-2 c κs = search needs
-
-field-requires-3 : tie.Need-field-requires-3
-field-requires-3 c κs = search needs
-
-join4-requires-2 : tie.Need-join4-requires-2
-join4-requires-2 c κs = search needs
-
-field-requires-4 : tie.Need-field-requires-4
-field-requires-4 c κs = search needs
-
-field-requires-5 : tie.Need-field-requires-5
-field-requires-5 c κs = search needs
-
-join4-requires-3 : tie.Need-join4-requires-3
-join4-requires-3 c κs = search needs
-
-join4-requires-4 : tie.Need-join4-requires-4
-join4-requires-4 c κs = search needs
-
-join4-requires-5 : tie.Need-join4-requires-5
-join4-requires-5 c κs = search needs
-
-join4-requires-6 : tie.Need-join4-requires-6
-join4-requires-6 c κs = search needs
-
-join4-requires-7 : tie.Need-join4-requires-7
-join4-requires-7 c κs = search needs
-
-middle-requires : tie.Need-middle-requires
-middle-requires c κs = search needs
-
-middle-requires-2 : tie.Need-middle-requires-2
-middle-requires-2 c κs = search needs
-
-field-requires-6 : tie.Need-field-requires-6
-field-requires-6 c κs = search needs
-
-join4-requires-8 : tie.Need-join4-requires-8
-join4-requires-8 c κs = search needs
-
 returns : tie.Need-returns
 returns c =
     let rows = c .before .before .before in
@@ -87,21 +36,21 @@ pub ten-spec : {M : Type 1} → statement M
 ten-spec =
     tie.close
     (tie.spec
-    cast-h
-    field-requires
-    join4-requires
-    field-requires-2
-    field-requires-3
-    join4-requires-2
-    field-requires-4
-    field-requires-5
-    join4-requires-3
-    join4-requires-4
-    join4-requires-5
-    join4-requires-6
-    join4-requires-7
-    middle-requires
-    middle-requires-2
-    field-requires-6
-    join4-requires-8
+    (search needs)
+    (search needs)
+    (search needs)
+    (search needs)
+    (search needs)
+    (search needs)
+    (search needs)
+    (search needs)
+    (search needs)
+    (search needs)
+    (search needs)
+    (search needs)
+    (search needs)
+    (search needs)
+    (search needs)
+    (search needs)
+    (search needs)
     returns)

@@ -26,21 +26,6 @@ returns c = refuses-1 _ _ (c .if1 .taken)
 returns-2 : tie.Need-returns-2
 returns-2 c = refuses-2 _ _ (c .before .if1 .left) (c .if2 .taken)
 
-parts-at-requires : tie.Need-parts-at-requires
-parts-at-requires c κs = search needs
-
-fault-requires : tie.Need-fault-requires
-fault-requires c κs = search needs
-
-enum-known-found : tie.Need-enum-known-found
-enum-known-found c = search needs
-
-enum-told : tie.Need-enum-told
-enum-told c = search needs
-
-unpack-last-requires : tie.Need-unpack-last-requires
-unpack-last-requires c κs = search needs
-
 returns-3 : tie.Need-returns-3
 returns-3 c =
     let called = c .before .before .before in
@@ -64,10 +49,10 @@ unpack-spec =
     (tie.spec
     returns
     returns-2
-    parts-at-requires
-    fault-requires
-    enum-known-found
-    enum-told
-    unpack-last-requires
+    (search needs)
+    (search needs)
+    (search needs)
+    (search needs)
+    (search needs)
     returns-3
     returns-4)

@@ -5,9 +5,6 @@ use Rattle.codec.proofs.CheckLaws.{last-set, last-clear}
 use Rattle.codec.proofs.unpack_last.Statement.{statement}
 use Rattle.codec.proofs.unpack_last.Tie as tie
 
-nibble-requires : tie.Need-nibble-requires
-nibble-requires c κs = search needs
-
 returns : tie.Need-returns
 returns c = last-set _ _ (λ clear. c .if1 .taken (c .before .nibble .ensures ∙ clear))
 
@@ -15,4 +12,4 @@ returns-2 : tie.Need-returns-2
 returns-2 c = last-clear _ _ (sym (c .before .nibble .ensures) ∙ c .if1 .left)
 
 pub unpack-last-spec : {M : Type 1} → statement M
-unpack-last-spec = tie.close (tie.spec nibble-requires returns returns-2)
+unpack-last-spec = tie.close (tie.spec (search needs) returns returns-2)

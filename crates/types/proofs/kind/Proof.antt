@@ -4,18 +4,6 @@ use borrow.Author.Needs.{needs}
 use Rattle.types.proofs.kind.Statement.{statement}
 use Rattle.types.proofs.kind.Tie as tie
 
-carried-requires : tie.Need-carried-requires
-carried-requires c κs = search needs
-
-carried-requires-2 : tie.Need-carried-requires-2
-carried-requires-2 c κs = search needs
-
-letter-requires : tie.Need-letter-requires
-letter-requires c κs = search needs
-
-digit-requires : tie.Need-digit-requires
-digit-requires c κs = search needs
-
 returns : tie.Need-returns
 unfolding typeOf letterOf
 returns c =
@@ -24,4 +12,4 @@ returns c =
 
 pub kind-spec : {M : Type 1} → statement M
 kind-spec =
-    tie.close (tie.spec carried-requires carried-requires-2 letter-requires digit-requires returns)
+    tie.close (tie.spec (search needs) (search needs) (search needs) (search needs) returns)

@@ -11,18 +11,6 @@ use borrow.Author.Needs.{needs}
 use Rattle.types.proofs.type_of.Statement.{statement}
 use Rattle.types.proofs.type_of.Tie as tie
 
-unpack-requires : tie.Need-unpack-requires
-unpack-requires c κs = search needs
-
-enum-known-unpacked : tie.Need-enum-known-unpacked
-enum-known-unpacked c = search needs
-
-enum-known-unpacked-2 : tie.Need-enum-known-unpacked-2
-enum-known-unpacked-2 c = search needs
-
-kind-requires : tie.Need-kind-requires
-kind-requires c κs = search needs
-
 returns : tie.Need-returns
 returns c =
     let called = c .before .before .before .unpack in
@@ -40,9 +28,9 @@ pub type-of-spec : {M : Type 1} → statement M
 type-of-spec =
     tie.close
     (tie.spec
-    unpack-requires
-    enum-known-unpacked
-    enum-known-unpacked-2
-    kind-requires
+    (search needs)
+    (search needs)
+    (search needs)
+    (search needs)
     returns
     returns-2)

@@ -19,15 +19,6 @@ block-of : (c : tie.After-known-told2)
     Opened (start .args .n) (now (start .args .s)) (c .before .unpacked2 .given .0 .0)
 block-of c = opened _ _ _ _ (c .before .unpacked2 .given .1) (c .before .before .before .unpack .ensures)
 
-unpack-requires : tie.Need-unpack-requires
-unpack-requires c κs = search needs
-
-enum-known-unpacked : tie.Need-enum-known-unpacked
-enum-known-unpacked c = search needs
-
-enum-known-unpacked-2 : tie.Need-enum-known-unpacked-2
-enum-known-unpacked-2 c = search needs
-
 value-at-requires : tie.Need-value-at-requires
 value-at-requires c κs = let block = block-of c in (block .within, block .small)
 
@@ -49,9 +40,9 @@ pub evaluate-spec : {M : Type 1} → statement M
 evaluate-spec =
     tie.close
     (tie.spec
-    unpack-requires
-    enum-known-unpacked
-    enum-known-unpacked-2
+    (search needs)
+    (search needs)
+    (search needs)
     value-at-requires
     returns
     returns-2)

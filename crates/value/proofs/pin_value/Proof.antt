@@ -13,9 +13,6 @@ returns : tie.Need-returns
 unfolding pinValue
 returns c = (rw (c .if1 .taken), omega arith)
 
-shr-result : tie.Need-shr-result
-shr-result c = search needs
-
 cast-result : tie.Need-cast-result
 cast-result c =
     record { fits = omega (arith, mask-lt (c .before .args .row / 2 ^ c .before .args .pin) 1) }
@@ -27,4 +24,4 @@ returns-2 c =
     (rw (ne-eqb _ _ (c .if1 .left), and-mask shifted 1), mask-lt shifted 1)
 
 pub pin-value-spec : {M : Type 1} → statement M
-pin-value-spec = tie.close (tie.spec returns shr-result cast-result returns-2)
+pin-value-spec = tie.close (tie.spec returns (search needs) cast-result returns-2)

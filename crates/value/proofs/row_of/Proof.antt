@@ -6,15 +6,6 @@ use borrow.Author.Needs.{needs}
 use Rattle.value.proofs.row_of.Statement.{statement}
 use Rattle.value.proofs.row_of.Tie as tie
 
-sub-result : tie.Need-sub-result
-sub-result c = search needs
-
-cast-result : tie.Need-cast-result
-cast-result c = search needs
-
-shr-result : tie.Need-shr-result
-shr-result c = search needs
-
 cast-result-2 : tie.Need-cast-result-2
 cast-result-2 c = record { fits = omega (arith, mask-lt (c .args .rows / 2 ^ (15 - c .args .k)) 1) }
 
@@ -24,4 +15,4 @@ returns c =
     (and-mask shifted 1, mask-lt shifted 1)
 
 pub row-of-spec : {M : Type 1} → statement M
-row-of-spec = tie.close (tie.spec sub-result cast-result shr-result cast-result-2 returns)
+row-of-spec = tie.close (tie.spec (search needs) (search needs) (search needs) cast-result-2 returns)

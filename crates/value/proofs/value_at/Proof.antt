@@ -1,5 +1,5 @@
 -- `value::value_at` meets its contract: a row below 2 to the n has a value. Assumes nothing.
-use mathlib.Core.Path.{_≡_, ap, _∙_}
+use mathlib.Core.Path.{ap, _∙_}
 use Prim.Native.Nat.{_^_, _≤_}
 use native.Mathlib.Omega.{arith}
 use lib.Pow.{pow-mono}
@@ -8,12 +8,6 @@ use Rattle.value.proofs.EvaluateLaws.{gives-bit, refuses-13}
 use borrow.Author.Needs.{needs}
 use Rattle.value.proofs.value_at.Statement.{statement}
 use Rattle.value.proofs.value_at.Tie as tie
-
-shl-rows : tie.Need-shl-rows
-shl-rows c = search needs
-
-block-value-requires : tie.Need-block-value-requires
-block-value-requires c κs = search needs
 
 returns : tie.Need-returns
 returns c =
@@ -28,4 +22,4 @@ returns-2 c =
     refuses-13 (a .n) (a .row) _ (omega arith)
 
 pub value-at-spec : {M : Type 1} → statement M
-value-at-spec = tie.close (tie.spec shl-rows block-value-requires returns returns-2)
+value-at-spec = tie.close (tie.spec (search needs) (search needs) returns returns-2)

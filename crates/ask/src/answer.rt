@@ -1,0 +1,97 @@
+// A question is a name, what is asked, n, and what it is asked of, with one blank between words.
+ghost use Prim.Native.Nat.{_≤_};
+use crate::say;
+use crate::words;
+use block::FourPin;
+use block::Parts;
+
+// Four fields from byte p on, with rows in the two bytes from byte q on.
+fn four_pin(s: &[u8], p: usize, q: usize) -> FourPin
+    requires { ⌜ (p ≤ 16) × (q ≤ 16) ⌝ }
+{
+    FourPin {
+        a: words::at(s, p),
+        b: words::at(s, p + 1),
+        c: words::at(s, p + 2),
+        d: words::at(s, p + 3),
+        rows: bits::join8(words::at(s, q), words::at(s, q + 1)),
+    }
+}
+
+// Nine fields, the rows of F and of G in two bytes each, and those of H in one.
+fn parts(s: &[u8]) -> Parts {
+    let f = four_pin(s, 0, 9);
+    let g = four_pin(s, 4, 11);
+    Parts {
+        f,
+        g,
+        direct: words::at(s, 8),
+        h: words::at(s, 13),
+    }
+}
+
+// The lent buffer is the first part of eleven bytes A5, and all eleven are printed.
+fn pack(n: u8, x: Parts, room: usize)
+    requires { ⌜ room ≤ 11 ⌝ }
+{
+    let mut out = [0xA5u8; 11];
+    let answer = codec::pack(n, x, &mut out[0..room]);
+    say::written(answer);
+    say::byte(b' ');
+    say::eleven(&out);
+}
+
+fn unknown() {
+    say::byte(b' ');
+    say::byte(b'?');
+}
+
+// The questions that end in a number.
+fn ask_with(kind: &[u8], n: u8, s: &[u8], last: &[u8]) {
+    if !words::is_number(last, 10) {
+        unknown();
+    } else if words::same(kind, b"evaluate") {
+        say::evaluated(value::evaluate(n, s, words::decimal(last, 4294967295) as u32));
+    } else if words::same(kind, b"pack") {
+        pack(n, parts(s), words::decimal(last, 11));
+    } else {
+        unknown();
+    }
+}
+
+fn ask(kind: &[u8], n: u8, s: &[u8], last: &[u8]) {
+    if words::same(kind, b"check") {
+        say::checked(codec::check(n, s));
+    } else if words::same(kind, b"type") {
+        say::typed(types::type_of(n, s));
+    } else {
+        ask_with(kind, n, s, last);
+    }
+}
+
+fn asked(kind: &[u8], count: &[u8], given: &[u8], last: &[u8]) {
+    if words::is_number(count, 10) & words::is_bytes(given) {
+        let mut data = [0u8; 16];
+        let len = words::bytes(given, &mut data);
+        ask(kind, words::decimal(count, 255) as u8, &data[0..len], last);
+    } else {
+        unknown();
+    }
+}
+
+pub(crate) fn question(line: &[u8]) {
+    if 0 < line.len() {
+        say::text(words::before(line, b' '));
+        let kind = words::after(line, b' ');
+        let count = words::after(kind, b' ');
+        let given = words::after(count, b' ');
+        let last = words::after(given, b' ');
+        asked(
+            words::before(kind, b' '),
+            words::before(count, b' '),
+            words::before(given, b' '),
+            last,
+        );
+    }
+    say::byte(b'\n');
+}

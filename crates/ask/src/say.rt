@@ -1,0 +1,86 @@
+// What is printed: answers, and what went wrong.
+use block::Letter;
+use block::Refusal;
+use block::Written;
+use codec::Checked;
+use libc::STDERR_FILENO;
+use libc::STDOUT_FILENO;
+use types::Typed;
+use value::Evaluated;
+
+pub(crate) fn unreadable() {
+    io::write_all(STDERR_FILENO, b"ask: standard input could not be read\n");
+}
+
+pub(crate) fn too_long() {
+    io::write_all(STDERR_FILENO, b"ask: more than 16,383 bytes of questions\n");
+}
+
+pub(crate) fn text(text: &[u8]) {
+    io::write_all(STDOUT_FILENO, text);
+}
+
+pub(crate) fn byte(x: u8) {
+    text(&[x]);
+}
+
+fn number(x: u64) {
+    byte(b' ');
+    io::print_decimal(STDOUT_FILENO, x);
+}
+
+fn refusal(k: Refusal) {
+    byte(b' ');
+    byte(b'R');
+    number(block::number(k) as u64);
+}
+
+pub(crate) fn checked(answer: Checked) {
+    match answer {
+        Checked::Fine => number(0),
+        Checked::Refused(k) => refusal(k),
+    }
+}
+
+pub(crate) fn evaluated(answer: Evaluated) {
+    match answer {
+        Evaluated::Bit(v) => number(v as u64),
+        Evaluated::Refused(k) => refusal(k),
+    }
+}
+
+pub(crate) fn written(answer: Written) {
+    match answer {
+        Written::Length(used) => number(used as u64),
+        Written::Refused(k) => refusal(k),
+    }
+}
+
+fn letter(l: Letter) {
+    match l {
+        Letter::A => byte(b'A'),
+        Letter::B => byte(b'B'),
+        Letter::C => byte(b'C'),
+    }
+}
+
+pub(crate) fn typed(answer: Typed) {
+    match answer {
+        Typed::Is(k) => {
+            let l = k.letter;
+            byte(b' ');
+            letter(l);
+            byte(b'-');
+            io::print_decimal(STDOUT_FILENO, k.digit as u64);
+        }
+        Typed::Refused(k) => refusal(k),
+    }
+}
+
+// Eleven bytes in hexadecimal capitals.
+pub(crate) fn eleven(s: &[u8; 11]) {
+    for i in 0..22 {
+        let d = bits::nibble(s, i) % 16;
+        byte(48 + d + d / 10 * 7);
+    }
+}
