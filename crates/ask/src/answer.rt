@@ -5,6 +5,11 @@ use crate::words;
 use block::FourPin;
 use block::Parts;
 
+fn unknown() {
+    say::byte(b' ');
+    say::byte(b'?');
+}
+
 // Four fields from byte p on, with rows in the two bytes from byte q on.
 fn four_pin(s: &[u8], p: usize, q: usize) -> FourPin
     requires { ⌜ (p ≤ 16) × (q ≤ 16) ⌝ }
@@ -18,7 +23,7 @@ fn four_pin(s: &[u8], p: usize, q: usize) -> FourPin
     }
 }
 
-// Nine fields, the rows of F and of G in two bytes each, and those of H in one.
+// Nine fields, the rows of F and of G in two bytes each, and those of H in one: fourteen bytes.
 fn parts(s: &[u8]) -> Parts {
     let f = four_pin(s, 0, 9);
     let g = four_pin(s, 4, 11);
@@ -31,64 +36,66 @@ fn parts(s: &[u8]) -> Parts {
 }
 
 // The lent buffer is the first part of eleven bytes A5, and all eleven are printed.
-fn pack(n: u8, x: Parts, room: usize)
-    requires { ⌜ room ≤ 11 ⌝ }
-{
-    let mut out = [0xA5u8; 11];
-    let answer = codec::pack(n, x, &mut out[0..room]);
-    say::written(answer);
-    say::byte(b' ');
-    say::eleven(&out);
-}
-
-fn unknown() {
-    say::byte(b' ');
-    say::byte(b'?');
+fn pack(n: u8, s: &[u8], room: usize) {
+    if s.len() != 14 {
+        unknown();
+    } else if 11 < room {
+        unknown();
+    } else {
+        let mut out = [0xA5u8; 11];
+        let answer = codec::pack(n, parts(s), &mut out[0..room]);
+        say::written(answer);
+        say::byte(b' ');
+        say::eleven(&out);
+    }
 }
 
 // The questions that end in a number.
-fn ask_with(kind: &[u8], n: u8, s: &[u8], last: &[u8]) {
+fn ask_with(question: &[u8], n: u8, s: &[u8], last: &[u8]) {
     if !words::is_number(last, 10) {
         unknown();
-    } else if words::same(kind, b"evaluate") {
+    } else if words::same(question, b"evaluate") {
         say::evaluated(value::evaluate(n, s, words::decimal(last, 4294967295) as u32));
-    } else if words::same(kind, b"pack") {
-        pack(n, parts(s), words::decimal(last, 11));
+    } else if words::same(question, b"pack") {
+        pack(n, s, words::decimal(last, 12));
     } else {
         unknown();
     }
 }
 
-fn ask(kind: &[u8], n: u8, s: &[u8], last: &[u8]) {
-    if words::same(kind, b"check") {
+fn ask(question: &[u8], n: u8, s: &[u8], last: &[u8]) {
+    if 0 < last.len() {
+        ask_with(question, n, s, last);
+    } else if words::same(question, b"check") {
         say::checked(codec::check(n, s));
-    } else if words::same(kind, b"type") {
+    } else if words::same(question, b"type") {
         say::typed(types::type_of(n, s));
     } else {
-        ask_with(kind, n, s, last);
+        unknown();
     }
 }
 
-fn asked(kind: &[u8], count: &[u8], given: &[u8], last: &[u8]) {
-    if words::is_number(count, 10) & words::is_bytes(given) {
+// n counts as 255 where it is greater; a word of more than sixteen bytes counts as sixteen.
+fn asked(question: &[u8], n: &[u8], given: &[u8], last: &[u8]) {
+    if words::is_number(n, 10) & words::is_bytes(given) {
         let mut data = [0u8; 16];
         let len = words::bytes(given, &mut data);
-        ask(kind, words::decimal(count, 255) as u8, &data[0..len], last);
+        ask(question, words::decimal(n, 255) as u8, &data[0..len], last);
     } else {
         unknown();
     }
 }
 
-pub(crate) fn question(line: &[u8]) {
+pub(crate) fn line(line: &[u8]) {
     if 0 < line.len() {
         say::text(words::before(line, b' '));
-        let kind = words::after(line, b' ');
-        let count = words::after(kind, b' ');
-        let given = words::after(count, b' ');
+        let question = words::after(line, b' ');
+        let n = words::after(question, b' ');
+        let given = words::after(n, b' ');
         let last = words::after(given, b' ');
         asked(
-            words::before(kind, b' '),
-            words::before(count, b' '),
+            words::before(question, b' '),
+            words::before(n, b' '),
             words::before(given, b' '),
             last,
         );

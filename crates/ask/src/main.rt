@@ -13,7 +13,7 @@ fn main() {
 fn answers(text: &[u8]) {
     let mut rest = text;
     while 0 < rest.len() {
-        answer::question(words::before(rest, b'\n'));
+        answer::line(words::before(rest, b'\n'));
         let next = words::after(rest, b'\n');
         rest = next;
     }

@@ -1,10 +1,10 @@
 // Words, and the numbers that they spell.
 ghost use mathlib.Core.Path.{_≡_};
-ghost use Prim.Native.Nat.{_+_, _-_, _*_, _≤_, _<_};
+ghost use Prim.Native.Nat.{_-_, _≤_, min};
 ghost use lib.ListN.{length};
 
 fn least(a: usize, b: usize) -> usize
-    ensures { λ r. ⌜ r ≡ a - (a - b) ⌝ }
+    ensures { λ r. ⌜ r ≡ min a b ⌝ }
 {
     if a < b { a } else { b }
 }

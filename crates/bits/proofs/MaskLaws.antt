@@ -1,23 +1,21 @@
 -- A mask of rows: `x & mask == 0` says that every row that the mask marks is 0 in x. Assumes nothing.
 use mathlib.Core.Path.{_≡_, refl, sym, ap, _∙_}
+use mathlib.Core.List.{List}
 use mathlib.Core.Bool.{Bool, true, false, _||_}
 use Prim.Native.Nat.{ℕ, zero, suc, _+_, _-_, _*_, _/_, _%_, _^_, _<_, min}
 use native.Mathlib.Nat.{zero-div}
 use native.Mathlib.Omega.{arith}
-use lib.Bits.{bitAnd, bitOr, and-mask, mask-lt, or-shifted, and-step, and-shr, and-le-l}
+use lib.Bits.{bitAnd, bitOr, and-mask, or-shifted, and-step, and-shr, and-le-l}
 use lib.Dec.{eqb}
 use lib.Pow.{shl-exact, shr-shr}
 use borrow.Author.Tests.{eq-eqb, eqb-true, eqb-false}
-use Rattle.bits.specs.Bits.{bit, rowOf}
+use Rattle.bits.specs.Bits.{bit, rowOf, nibble}
 use Rattle.bits.specs.Tests.{below}
 use Rattle.bits.proofs.TestLaws.{same-test, below-at, below-of}
 
 bit-suc : (x i : ℕ) → bit x (suc i) ≡ bit (x / 2) i
 bit-suc x i =
     let e : 1 + i ≡ suc i = omega arith in ap (λ (y : ℕ). y % 2) (sym (rw e at (shr-shr x 1 i)))
-
-pub bit-lt : (x i : ℕ) → bit x i < 2
-bit-lt x i = omega arith
 
 -- a number whose bits are all 0 is 0
 pub zero-bits : (w x : ℕ) → x < 2 ^ w → ((i : ℕ) → i < w → bit x i ≡ 0) → x ≡ 0
@@ -73,12 +71,12 @@ module _ (w x mask : ℕ) (fits : x < 2 ^ w) where
   pub masked : eqb (bitAnd x mask) 0 ≡ below (clear w x mask) w
   masked = same-test (eqb (bitAnd x mask) 0) (below (clear w x mask) w) all-clear none-common
 
--- a field taken out by a shift and a mask
-pub field-fits : (x : ℕ) → bitAnd x 15 < 256
-field-fits x = omega (arith, mask-lt x 4)
+-- a field is of four bits
+pub field-lt : (x : ℕ) → x % 16 < 16
+field-lt x = omega arith
 
-pub field-of : (x k : ℕ) → bitAnd (x / 2 ^ bitAnd k 15) 15 ≡ x / 2 ^ (k % 16) % 16
-field-of x k = rw (and-mask k 4) (and-mask (x / 2 ^ (k % 16)) 4)
+pub nibble-lt : (s : List ℕ) (i : ℕ) → nibble s i < 16
+nibble-lt s i = omega arith
 
 -- fields and bytes joined by a shift and `|`: what is shifted has no bit in common with the other
 pub joined-fields : (high low : ℕ)

@@ -1,10 +1,9 @@
 -- What the tests of specs/Tests say, number by number. Assumes nothing.
 use mathlib.Core.Path.{_≡_, refl, sym}
-use mathlib.Core.Bool.{Bool, true, false, not, _&&_, _||_, and-false}
+use mathlib.Core.Bool.{Bool, true, false, not, _&&_, _||_, and-false, Bool·beq}
 use mathlib.Core.Logic.{⊎-elim}
-use Prim.Native.Nat.{ℕ, zero, suc, _+_, _<_}
+use Prim.Native.Nat.{ℕ, zero, suc, _<_}
 use native.Mathlib.Nat.{not-suc-le-zero, le-suc-iff, suc-inj, lt-suc-self, le-step}
-use native.Mathlib.Numerals.{add-one}
 use Rattle.bits.specs.Tests.{below}
 
 pub both-left : (a b : Bool) → a && b ≡ true → a ≡ true
@@ -23,15 +22,18 @@ pub or-cases : (a b : Bool) (P : Type 0) → a || b ≡ true → (a ≡ true →
 or-cases true b P h left right = left refl
 or-cases false b P h left right = right h
 
+-- a comparison that came out true
+pub same-bool : (a b : Bool) → Bool·beq a b ≡ true → a ≡ b
+same-bool true true e = refl
+same-bool true false e = sym e
+same-bool false true e = e
+same-bool false false e = refl
+
 -- two tests that hold of the same are equal
 pub same-test : (a b : Bool) → (a ≡ true → b ≡ true) → (b ≡ true → a ≡ true) → a ≡ b
 same-test true b f g = sym (f refl)
 same-test false true f g = g refl
 same-test false false f g = refl
-
--- a loop that counts up: one more number
-pub below-next : (f : ℕ → Bool) (k : ℕ) → below f k ≡ true → f k ≡ true → below f (k + 1) ≡ true
-below-next f k h e = rw (add-one, e) h
 
 pub below-at : (f : ℕ → Bool) (n : ℕ) → below f n ≡ true → (k : ℕ) → k < n → f k ≡ true
 below-at f zero t k h = absurd (not-suc-le-zero h)

@@ -4,29 +4,29 @@ use mathlib.Core.List.{List, [], _∷_}
 use lib.ListN.{getD}
 
 -- bit i of x, the units bit being bit 0
-abbrev pub bit : ℕ → ℕ → ℕ
+abbrev pub bit : (x i : ℕ) → ℕ
 bit x i = x / 2 ^ i % 2
 
 -- row k of w rows held in one number, row 0 in the most significant bit
-abbrev pub rowOf : ℕ → ℕ → ℕ → ℕ
+abbrev pub rowOf : (w x k : ℕ) → ℕ
 rowOf w x k = bit x (w - 1 - k)
 
 -- field i of 4 bits in a list of bytes, most significant first; 0 past the end
-abbrev pub nibble : List ℕ → ℕ → ℕ
+abbrev pub nibble : (s : List ℕ) (i : ℕ) → ℕ
 nibble s i = getD s (i / 2) 0 / 16 ^ (1 - i % 2) % 16
 
--- count fields from place i on
-abbrev pub nibbles : List ℕ → ℕ → ℕ → List ℕ
+-- so many fields from place i on
+abbrev pub nibbles : (s : List ℕ) (i count : ℕ) → List ℕ
 nibbles s i zero = []
 nibbles s i (suc count) = nibble s i ∷ nibbles s (suc i) count
 
--- the number that fields make, the first one the most significant
-abbrev pub joined : ℕ → List ℕ → ℕ
+-- the number that fields make below what stands above them, the first one the most significant
+abbrev pub joined : (high : ℕ) (fields : List ℕ) → ℕ
 joined high [] = high
 joined high (field ∷ fields) = joined (high * 16 + field) fields
 
--- the lowest count fields of a number, most significant first
-abbrev pub split : ℕ → ℕ → List ℕ
+-- so many lowest fields of a number, most significant first
+abbrev pub split : (count x : ℕ) → List ℕ
 split zero x = []
 split (suc count) x = (x / 16 ^ count % 16) ∷ split count x
 

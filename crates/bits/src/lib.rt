@@ -1,7 +1,7 @@
-// Leaves over bits and fields, by shifts and masks. Each accepts every input; what lies past an end or
-// a width reads 0 or is cut by the mask that the promise names.
+// Leaves over fields, by shifts and masks. Each accepts every input: past an end a field reads 0, and
+// what is joined is cut by the mask that the promise names.
 ghost use mathlib.Core.Path.{_≡_};
-ghost use Prim.Native.Nat.{_+_, _*_, _/_, _%_, _^_};
+ghost use Prim.Native.Nat.{_+_, _*_, _%_};
 ghost use Rattle.bits.specs.Bits.{nibble};
 
 // Field i of 4 bits.
@@ -28,11 +28,4 @@ pub fn join8(high: u8, low: u8) -> u16
     ensures { λ r. ⌜ r ≡ high * 256 + low ⌝ }
 {
     ((high as u16) << 8) | (low as u16)
-}
-
-// The field of 4 bits that stands k bits above the units bit.
-pub fn field(x: u16, k: u16) -> u8
-    ensures { λ r. ⌜ r ≡ x / 2 ^ (k % 16) % 16 ⌝ }
-{
-    ((x >> (k & 15)) & 15) as u8
 }

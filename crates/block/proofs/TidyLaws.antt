@@ -1,19 +1,21 @@
 -- The rows that open pins leave unread, pin by pin. Assumes nothing.
-use mathlib.Core.Path.{_≡_, refl, sym, ap, _∙_}
+use mathlib.Core.Path.{_≡_, refl, ap, _∙_}
 use mathlib.Core.Bool.{Bool, true, false, not, _&&_, _||_, Bool·beq}
 use mathlib.Core.List.{List, [], _∷_}
-use Prim.Native.Nat.{ℕ, _/_, _%_, _^_, _<_}
+use Prim.Native.Nat.{ℕ, _/_, _%_, _^_, _<_, _≤_}
 use lib.Bits.{bitAnd}
-use lib.Dec.{eqb}
+use native.Mathlib.Omega.{arith}
+use lib.Dec.{eqb, ltb}
 use lib.ListN.{length}
-use borrow.Author.Tests.{eqb-true}
+use borrow.Author.Tests.{eqb-true, ltb-true}
 use Rattle.bits.specs.Bits.{rowOf}
 use Rattle.bits.specs.Tests.{below}
-use Rattle.bits.proofs.TestLaws.{implied, below-at, below-ext, below-and, below-or, below-true}
+use Rattle.bits.proofs.TestLaws.{same-bool, or-cases, below-at, below-ext, below-and, below-or, below-true}
 use Rattle.bits.proofs.MaskLaws.{masked, clear as clearRow}
-use Rattle.block.specs.Block.{isOpen}
+use Rattle.block.specs.Block.{openField, isOpen}
+use Rattle.block.specs.Table.{mostInputs}
 use Rattle.block.specs.Value.{openLevel}
-use Rattle.block.specs.Tidy.{unreadable, quiet}
+use Rattle.block.specs.Tidy.{fieldFits, unreadable, quiet}
 
 -- every row that needs the other level on the pin with j pins after it holds 0
 abbrev pub pinQuiet : ℕ → ℕ → ℕ → Bool
@@ -60,12 +62,6 @@ marksRow w mask j k = Bool·beq (eqb (rowOf w mask k) 0) (eqb (k / 2 ^ j % 2) op
 abbrev pub marks : ℕ → ℕ → ℕ → Bool
 marks w mask j = below (marksRow w mask j) w
 
-same-bool : (a b : Bool) → Bool·beq a b ≡ true → a ≡ b
-same-bool true true e = refl
-same-bool true false e = sym e
-same-bool false true e = e
-same-bool false false e = refl
-
 pub mask-quiet : (w rows mask j : ℕ) → rows < 2 ^ w → marks w mask j ≡ true
     → eqb (bitAnd rows mask) 0 ≡ pinQuiet w rows j
 mask-quiet w rows mask j fits h =
@@ -74,10 +70,9 @@ mask-quiet w rows mask j fits h =
     masked w rows mask fits
     ∙ below-ext (clearRow w rows mask) _ w (λ k l. ap (λ (b : Bool). b || eqb (rowOf w rows k) 0) (same k l))
 
--- an unreadable row of a quiet table holds 0
-pub quiet-row : (w rows : ℕ) (pins : List ℕ) → quiet w rows pins ≡ true → (k : ℕ) → k < w
-    → unreadable pins k ≡ true → rowOf w rows k ≡ 0
-unfolding quiet
-quiet-row w rows pins hushed k l unread =
-    let clear = implied (unreadable pins k) (eqb (rowOf w rows k) 0) (below-at _ w hushed k l) unread in
-    eqb-true (rowOf w rows k) 0 clear
+-- a field of at most nine inputs is of four bits
+pub fits-lt : (n pin : ℕ) → n ≤ mostInputs → fieldFits n pin ≡ true → pin < 16
+fits-lt n pin within fit =
+    or-cases (ltb pin n) (isOpen pin) (pin < 16) fit
+    (λ low. let l = ltb-true pin n low in omega arith)
+    (λ opened. let e = eqb-true pin openField opened in omega arith)

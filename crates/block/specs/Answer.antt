@@ -8,15 +8,16 @@ use Rattle.block.specs.declared.Written.{Written}
 use Rattle.block.specs.declared.Written.the-variants.{Length, Refused}
 use Rattle.block.specs.Refusal.{numberOf}
 
+-- a number, 0 for success, and the other parts
 pub record Answer (A : Type 0) : Type 0 where
   pub number : ℕ
   pub parts : A
 
-abbrev pub answer : {A : Type 0} → ℕ → A → Answer A
+abbrev pub answer : {A : Type 0} (number : ℕ) (parts : A) → Answer A
 answer k x = record { number = k; parts = x }
 
 -- the answer whose refusal has this number: the parts if it is 0, else every part 0
-abbrev pub answered : {A : Type 0} → ℕ → A → A → Answer A
+abbrev pub answered : {A : Type 0} (refusal : ℕ) (none parts : A) → Answer A
 answered zero none parts = answer 0 parts
 answered (suc k) none parts = answer (suc k) none
 
@@ -25,9 +26,9 @@ abbrev pub writtenOf : Written → Answer ℕ
 writtenOf (Length k) = answer 0 k
 writtenOf (Refused k) = answer (numberOf k) 0
 
--- a lent buffer afterwards: the bytes at its start and none after them changed; after a refusal no byte
--- changed
-abbrev pub bufferAfter : ℕ → List ℕ → List ℕ → List ℕ
+-- a lent buffer afterwards: the bytes at its start and none after them changed; after a refusal no
+-- byte changed
+abbrev pub bufferAfter : (refusal : ℕ) (bytes buffer : List ℕ) → List ℕ
 bufferAfter zero bytes buffer = bytes ++ drop (length bytes) buffer
 bufferAfter (suc k) bytes buffer = buffer
 

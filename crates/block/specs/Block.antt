@@ -7,21 +7,24 @@ use mathlib.Core.List.{List, [], _∷_, _++_}
 use lib.Dec.{eqb}
 use lib.ListN.{length}
 
--- a table with pins: F and G alike. A pin is its field, a variable number or 15 for open; the rows are
--- one number, row 0 most significant.
+-- a table with pins: F and G alike. A pin is its field, a variable number or 15 for open; the rows
+-- are one number, row 0 most significant.
 pub record Lut : Type 0 where
   pub pins : List ℕ
   pub rows : ℕ
 
+-- F(X) = C(A, B, xc): F and G are A and B, H is C, and the direct pin is xc
 pub record Block : Type 0 where
   pub f : Lut
   pub g : Lut
   pub direct : ℕ
   pub h : ℕ
 
+-- the field of an open pin
 abbrev pub openField : ℕ
 openField = 15
 
+-- the pin is open
 abbrev pub isOpen : ℕ → Bool
 isOpen pin = eqb pin openField
 

@@ -11,11 +11,11 @@ use Rattle.block.specs.Table.{mostInputs}
 use Rattle.block.specs.Block.{Block, isOpen}
 
 -- the variable v is carried by one of the pins
-unfoldable pub carries : List ℕ → ℕ → Bool
+unfoldable pub carries : (pins : List ℕ) (v : ℕ) → Bool
 carries pins v = not (isOpen v) && member v pins
 
 -- by whether F and whether G carry the direct pin's variable: A in neither, B in exactly one, C in both
-abbrev pub letterBy : Bool → Bool → Letter
+abbrev pub letterBy : (in-f in-g : Bool) → Letter
 letterBy false false = A
 letterBy true false = B
 letterBy false true = B
@@ -26,13 +26,14 @@ unfoldable pub letterOf : Block → Letter
 letterOf b = letterBy (carries (b .f .pins) (b .direct)) (carries (b .g .pins) (b .direct))
 
 -- v is a variable in both F and G, the direct pin's variable left out
-abbrev pub isShared : Block → ℕ → Bool
+abbrev pub isShared : (b : Block) (v : ℕ) → Bool
 isShared b v = carries (b .f .pins) v && (carries (b .g .pins) v && not (eqb v (b .direct)))
 
 -- the digit counts them
 unfoldable pub digitOf : Block → ℕ
 digitOf b = count (isShared b) mostInputs
 
+-- the type, as A-0
 unfoldable pub typeOf : Block → Kind
 typeOf b = record { letter = letterOf b; digit = digitOf b }
 

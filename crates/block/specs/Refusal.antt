@@ -23,6 +23,7 @@ abbrev pub firstOf : List Case → ℕ
 firstOf [] = 0
 firstOf ((number when fault) ∷ cases) = pick fault number (firstOf cases)
 
+-- document 01's number of each refusal
 abbrev pub numberOf : Refusal → ℕ
 numberOf R1 = 1
 numberOf R2 = 2
@@ -55,14 +56,15 @@ abbrev pub openRowSet : Block → Bool
 openRowSet b = not (rowsQuiet b)
 
 -- the fields and tables of a block: 6, 7, 8
-abbrev pub tidyCases : ℕ → Block → List Case
+abbrev pub tidyCases : (n : ℕ) (b : Block) → List Case
 tidyCases n b = 6 when strayField n b ∷ 7 when outOfOrder b ∷ 8 when openRowSet b ∷ []
 
-unfoldable pub tidyRefusal : ℕ → Block → ℕ
+-- the number that these give
+unfoldable pub tidyRefusal : (n : ℕ) (b : Block) → ℕ
 tidyRefusal n b = firstOf (tidyCases n b)
 
 -- a table of n inputs as offered: 1, 2, 3
-unfoldable pub tableRefusal : ℕ → List ℕ → ℕ
+unfoldable pub tableRefusal : (n : ℕ) (t : List ℕ) → ℕ
 tableRefusal n t =
     firstOf
     (1 when tooManyInputs n

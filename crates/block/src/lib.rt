@@ -1,8 +1,18 @@
-// What passes between the layers: a block in numbers, a type, the refusals, and the answer of a writer.
-// Their meaning stands in specs/.
+// What passes between the layers: a block in numbers, a type, the refusals, and the answer of a
+// writer. Their meaning stands in specs/.
 
 ghost use mathlib.Core.Path.{_≡_};
 ghost use Rattle.block.specs.Refusal.{numberOf};
+
+// The field of an open pin, and the level that an open pin reads.
+pub const OPEN: u8 = 15;
+
+pub const OPEN_LEVEL: u8 = 0;
+
+// The greatest n, and the length of a block.
+pub const MOST_INPUTS: u8 = 9;
+
+pub const BLOCK_BYTES: usize = 10;
 
 // A four-pin table, F or G: its pin fields from the first pin on, and its sixteen rows.
 pub struct FourPin {

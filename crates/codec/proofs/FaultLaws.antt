@@ -1,5 +1,5 @@
--- The refusals 6, 7, 8 by what the tests found, and the masks of the rows that open pins leave unread.
--- Assumes nothing.
+-- The refusals 6, 7, 8 by what the tests found, and the masks of the rows that open pins leave
+-- unread. Assumes nothing.
 use mathlib.Core.Path.{_≡_, refl, sym, ap, _∙_}
 use mathlib.Core.Bool.{Bool, true, false, not, _&&_, _||_, and-true}
 use mathlib.Core.List.{List, [], _∷_, _++_}

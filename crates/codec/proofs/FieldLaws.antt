@@ -4,6 +4,7 @@ use mathlib.Core.List.{List, [], _∷_}
 use Prim.Native.Nat.{ℕ, suc, _+_, _*_, _%_, _<_}
 use native.Mathlib.Nat.{mod-eq-of-lt}
 use native.Mathlib.Omega.{arith}
+use Rattle.bits.proofs.MaskLaws.{nibble-lt}
 use Rattle.bits.specs.Bits.{nibble, nibbles, joined}
 
 -- four fields in a row, by their places
@@ -19,9 +20,6 @@ two-bytes : (a b c d : ℕ) → a < 16 → b < 16 → c < 16 → d < 16
     → (a % 16 * 16 + b % 16) * 256 + (c % 16 * 16 + d % 16) ≡ joined 0 (a ∷ b ∷ c ∷ d ∷ [])
 two-bytes a b c d la lb lc ld =
     rw (mod-eq-of-lt la, mod-eq-of-lt lb, mod-eq-of-lt lc, mod-eq-of-lt ld) (omega arith)
-
-nibble-lt : (s : List ℕ) (i : ℕ) → nibble s i < 16
-nibble-lt s i = omega arith
 
 -- two bytes of two fields each are four fields joined
 pub four-joined : (s : List ℕ) (i : ℕ)

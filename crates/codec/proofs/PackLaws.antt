@@ -3,19 +3,19 @@ use mathlib.Core.Path.{_≡_, refl, sym, _∙_}
 use mathlib.Core.Bool.{true, _&&_}
 use mathlib.Core.List.{List, [], _∷_}
 use Prim.Native.Nat.{ℕ, _<_, _≤_}
-use native.Mathlib.Omega.{arith}
 use lib.Dec.{ltb}
 use lib.ListN.{length}
-use borrow.Author.Tests.{lt-ltb, le-ltb, ltb-true, ltb-false, eqb-true}
+use borrow.Author.Tests.{lt-ltb, le-ltb, ltb-false}
 use Rattle.bits.specs.Tests.{pick, every}
-use Rattle.bits.proofs.TestLaws.{both-left, both-right, or-cases}
+use Rattle.bits.proofs.TestLaws.{both-left, both-right}
 use Rattle.block.specs.declared.FourPin.{FourPin}
 use Rattle.block.specs.declared.Parts.{Parts}
 use Rattle.block.specs.declared.Refusal.{Refusal}
-use Rattle.block.specs.Block.{Block, isOpen}
+use Rattle.block.specs.Block.{Block}
 use Rattle.block.specs.Code.{lutOf, blockOf}
 use Rattle.block.specs.Tidy.{fieldFits, fieldsFit, Tidy}
 use Rattle.block.specs.Refusal.{_when_, numberOf, tidyCases, tidyRefusal}
+use Rattle.block.proofs.TidyLaws.{fits-lt}
 use Rattle.block.proofs.RefusalLaws.{at-refusal, orElse, orElse-zero, first-append, pick-zero}
 use Rattle.block.proofs.RefusalLaws.{tidy-of-none}
 use Rattle.block.specs.declared.Written.{Written}
@@ -63,12 +63,6 @@ packable-of-none n b room e =
       tidy = tidy-of-none n b (parts .0);
       enough = ltb-false room 10 (pick-zero (ltb room 10) 4 0 (parts .1) .0);
     }
-
-fits-lt : (n pin : ℕ) → n ≤ 9 → fieldFits n pin ≡ true → pin < 16
-fits-lt n pin within fit =
-    or-cases (ltb pin n) (isOpen pin) (pin < 16) fit
-    (λ low. let l = ltb-true pin n low in omega arith)
-    (λ opened. let e = eqb-true pin 15 opened in omega arith)
 
 four-bits : (n : ℕ) (t : FourPin) → n ≤ 9 → every (fieldFits n) (lutOf t .pins) ≡ true → FourBits t
 four-bits n t within fit =

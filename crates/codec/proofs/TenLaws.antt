@@ -4,6 +4,7 @@ use mathlib.Core.List.{[], _∷_}
 use Prim.Native.Nat.{ℕ, _+_, _*_, _/_, _%_, _<_}
 use native.Mathlib.Omega.{arith}
 use lib.ListN.{length}
+use Rattle.bits.proofs.MaskLaws.{field-lt}
 use Rattle.block.specs.declared.Parts.{Parts}
 use Rattle.block.specs.Code.{blockOf}
 use Rattle.codec.specs.Ten.{packOf, FieldsOfFour}
@@ -17,9 +18,6 @@ byte-exact high low h l = omega arith
 
 middle-fields : (x : ℕ) → x / 16 % 256 ≡ x / 256 % 16 * 16 + x / 16 % 16
 middle-fields x = omega arith
-
-field-lt : (x : ℕ) → x % 16 < 16
-field-lt x = omega arith
 
 pub ten-bytes : (x : Parts) → FieldsOfFour x
     → byteOf (x .f .a) (x .f .b)

@@ -19,7 +19,7 @@ use Rattle.codec.specs.declared.Unpacked.{Unpacked}
 use Rattle.codec.specs.declared.Unpacked.the-variants as unpacked
 use Rattle.codec.specs.Ten.{unpackOf}
 use Rattle.codec.specs.Check.{checkRefusal}
-use Rattle.codec.specs.Answers.{checkedOf, unpackedOf, unpackAnswer}
+use Rattle.codec.specs.Answers.{checkedOf, unpackedOf, unpackAnswer, Checks, Unpacks}
 
 refused-number : (n : ℕ) (s : List ℕ) (k : Refusal)
     → answer (numberOf k) zeroBlock ≡ unpackAnswer n s → numberOf k ≡ checkRefusal n s
@@ -64,8 +64,7 @@ same-unpacked (unpacked.Refused k) (unpacked.Block y) e =
 same-unpacked (unpacked.Refused k) (unpacked.Refused m) e =
     ap unpacked.Refused (number-injective k m (ap (λ (a : Answer Block). a .number) e))
 
-pub unpack-unique : (n : ℕ) (s : List ℕ) (r q : Unpacked) → unpackedOf r ≡ unpackAnswer n s
-    → unpackedOf q ≡ unpackAnswer n s → r ≡ q
+pub unpack-unique : (n : ℕ) (s : List ℕ) (r q : Unpacked) → Unpacks n s r → Unpacks n s q → r ≡ q
 unpack-unique n s r q p p' = same-unpacked r q (p ∙ sym p')
 
 not-zero : (k : Refusal) → 0 ≡ numberOf k → ⊥
@@ -77,6 +76,5 @@ same-checked checked.Fine (checked.Refused k) e = absurd (not-zero k e)
 same-checked (checked.Refused k) checked.Fine e = absurd (not-zero k (sym e))
 same-checked (checked.Refused k) (checked.Refused m) e = ap checked.Refused (number-injective k m e)
 
-pub check-unique : (n : ℕ) (s : List ℕ) (r q : Checked) → checkedOf r ≡ checkRefusal n s
-    → checkedOf q ≡ checkRefusal n s → r ≡ q
+pub check-unique : (n : ℕ) (s : List ℕ) (r q : Checked) → Checks n s r → Checks n s q → r ≡ q
 check-unique n s r q p p' = same-checked r q (p ∙ sym p')

@@ -22,7 +22,7 @@ abbrev pub noRoom : ℕ → Bool
 noRoom room = ltb room blockBytes
 
 -- checking or typing a block: 1, 2, 6, 7, 8, 9
-abbrev pub checkCases : ℕ → List ℕ → List Case
+abbrev pub checkCases : (n : ℕ) (s : List ℕ) → List Case
 checkCases n s =
     1 when tooManyInputs n
     ∷ 2 when wrongLength s
@@ -32,7 +32,8 @@ checkCases n s =
     ∷ 9 when lastBitsSet s
     ∷ []
 
-unfoldable pub checkRefusal : ℕ → List ℕ → ℕ
+-- the number that checking gives
+unfoldable pub checkRefusal : (n : ℕ) (s : List ℕ) → ℕ
 checkRefusal n s = firstOf (checkCases n s)
 
 -- the last of them, once the others are passed
@@ -40,7 +41,7 @@ unfoldable pub lastRefusal : List ℕ → ℕ
 lastRefusal s = firstOf (9 when lastBitsSet s ∷ [])
 
 -- packing nine fields and three tables: 1, 6, 7, 8, 5
-unfoldable pub packRefusal : ℕ → Block → ℕ → ℕ
+unfoldable pub packRefusal : (n : ℕ) (b : Block) (room : ℕ) → ℕ
 packRefusal n b room =
     firstOf
     (1 when tooManyInputs n

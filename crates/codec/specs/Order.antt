@@ -7,11 +7,11 @@ use Rattle.block.specs.Block.{Block}
 use Rattle.codec.specs.Ten.{packOf}
 
 -- the first byte that differs decides
-abbrev pub before : List ℕ → List ℕ → Bool
+abbrev pub before : (s t : List ℕ) → Bool
 before s [] = false
 before [] (y ∷ ys) = true
 before (x ∷ xs) (y ∷ ys) = ltb x y || (eqb x y && before xs ys)
 
 -- block b comes before block c in byte order of their ten bytes
-unfoldable pub comesBefore : Block → Block → Bool
+unfoldable pub comesBefore : (b c : Block) → Bool
 comesBefore b c = before (packOf b) (packOf c)

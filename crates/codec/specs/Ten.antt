@@ -6,6 +6,7 @@ use Rattle.block.specs.declared.FourPin.{FourPin}
 use Rattle.block.specs.declared.Parts.{Parts}
 use Rattle.block.specs.Block.{Lut, Block}
 
+-- the length of a block
 abbrev pub blockBytes : ℕ
 blockBytes = 10
 
@@ -18,13 +19,15 @@ fieldsOf b =
     ++ (b .direct
     ∷ (split 4 (b .f .rows) ++ (split 4 (b .g .rows) ++ (split 2 (b .h) ++ (0 ∷ []))))))
 
+-- the ten bytes of a block
 unfoldable pub packOf : Block → List ℕ
 packOf b = bytesOf (fieldsOf b)
 
 -- the table whose four pins stand from field p on, and whose rows from field q on
-abbrev pub lutAt : List ℕ → ℕ → ℕ → Lut
+abbrev pub lutAt : (s : List ℕ) (p q : ℕ) → Lut
 lutAt s p q = record { pins = nibbles s p 4; rows = joined 0 (nibbles s q 4) }
 
+-- the block in ten bytes
 unfoldable pub unpackOf : List ℕ → Block
 unpackOf s =
     record { f = lutAt s 0 9; g = lutAt s 4 13; direct = nibble s 8; h = joined 0 (nibbles s 17 2) }
@@ -33,13 +36,14 @@ unpackOf s =
 abbrev pub lastBits : List ℕ → ℕ
 lastBits s = nibble s 19
 
+-- the pin fields of a table are of four bits
 pub record FourBits (t : FourPin) : Type 0 where
   pub a : t .a < 16
   pub b : t .b < 16
   pub c : t .c < 16
   pub d : t .d < 16
 
--- pin fields of four bits
+-- all nine pin fields are of four bits
 pub record FieldsOfFour (x : Parts) : Type 0 where
   pub in-f : FourBits (x .f)
   pub in-g : FourBits (x .g)

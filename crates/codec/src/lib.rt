@@ -1,7 +1,7 @@
 // The ten bytes of a block: unpacked, checked and packed.
 ghost use mathlib.Core.Path.{_≡_};
 ghost use mathlib.Core.Bool.{not, _&&_, _||_};
-ghost use Prim.Native.Nat.{_+_, _/_, _%_, _<_};
+ghost use Prim.Native.Nat.{_+_, _/_, _%_, _^_, _<_};
 ghost use lib.Bits.{bitAnd};
 ghost use lib.Dec.{eqb};
 ghost use Rattle.bits.specs.Bits.{nibbles, joined};
@@ -12,9 +12,12 @@ ghost use Rattle.block.specs.Tidy.{fieldFits, fieldsFit, follows, ordered, lutQ
 ghost use Rattle.block.specs.Refusal.{tidyRefusal};
 ghost use Rattle.block.specs.Answer.{answered};
 ghost use Rattle.codec.specs.Ten.{lutAt, unpackOf, packOf, FieldsOfFour};
-ghost use Rattle.codec.specs.Check.{lastRefusal, checkRefusal, packRefusal};
-ghost use Rattle.codec.specs.Answers.{checkedOf, unpackedOf, unpackAnswer, Packs};
+ghost use Rattle.codec.specs.Check.{lastRefusal, packRefusal};
+ghost use Rattle.codec.specs.Answers.{checkedOf, unpackedOf, Checks, Unpacks, Packs};
+use block::BLOCK_BYTES;
 use block::FourPin;
+use block::MOST_INPUTS;
+use block::OPEN;
 use block::Parts;
 use block::Refusal;
 use block::Written;
@@ -29,10 +32,8 @@ pub enum Unpacked {
     Refused(Refusal),
 }
 
-const OPEN: u8 = 15;
-
-// The rows, row 0 most significant, that need a 1 on the pin of weight 8, 4, 2, 1 of a four-pin table,
-// and on the direct pin of H.
+// The rows, row 0 most significant, that need a 1 on the pin of weight 8, 4, 2, 1 of a four-pin
+// table, and on the direct pin of H.
 const NEEDS_8: u16 = 0x00FF;
 
 const NEEDS_4: u16 = 0x0F0F;
@@ -168,12 +169,12 @@ fn unpack_last(s: &[u8], x: Parts) -> Unpacked
 
 // The nine fields and three tables of ten bytes.
 pub fn unpack(n: u8, s: &[u8]) -> Unpacked
-    ensures { λ r. ⌜ unpackedOf r ≡ unpackAnswer n (now (s .entry)) ⌝ }
+    ensures { λ r. ⌜ Unpacks n (now (s .entry)) r ⌝ }
 {
-    if 9 < n {
+    if MOST_INPUTS < n {
         return Unpacked::Refused(Refusal::R1);
     }
-    if s.len() != 10 {
+    if s.len() != BLOCK_BYTES {
         return Unpacked::Refused(Refusal::R2);
     }
     let x = parts_at(s);
@@ -186,13 +187,21 @@ pub fn unpack(n: u8, s: &[u8]) -> Unpacked
 
 // Whether ten bytes are a tidy block.
 pub fn check(n: u8, s: &[u8]) -> Checked
-    ensures { λ r. ⌜ checkedOf r ≡ checkRefusal n (now (s .entry)) ⌝ }
+    ensures { λ r. ⌜ Checks n (now (s .entry)) r ⌝ }
 {
     let unpacked = unpack(n, s);
     match unpacked {
         Unpacked::Refused(k) => Checked::Refused(k),
         Unpacked::Block(_) => Checked::Fine,
     }
+}
+
+// The field of four bits that stands k bits above the units bit.
+fn field(x: u16, k: u16) -> u8
+    requires { ⌜ k < 16 ⌝ }
+    ensures { λ r. ⌜ r ≡ x / 2 ^ k % 16 ⌝ }
+{
+    ((x >> k) & 15) as u8
 }
 
 // The eight bits in the middle of sixteen.
@@ -209,9 +218,9 @@ fn ten(x: Parts) -> [u8; 10]
     let f = x.f;
     let g = x.g;
     let h = x.h as u16;
-    let x4 = bits::join4(x.direct, bits::field(f.rows, 12));
-    let x6 = bits::join4(bits::field(f.rows, 0), bits::field(g.rows, 12));
-    let x8 = bits::join4(bits::field(g.rows, 0), bits::field(h, 4));
+    let x4 = bits::join4(x.direct, field(f.rows, 12));
+    let x6 = bits::join4(field(f.rows, 0), field(g.rows, 12));
+    let x8 = bits::join4(field(g.rows, 0), field(h, 4));
     [
         bits::join4(f.a, f.b),
         bits::join4(f.c, f.d),
@@ -222,7 +231,7 @@ fn ten(x: Parts) -> [u8; 10]
         x6,
         middle(g.rows),
         x8,
-        bits::join4(bits::field(h, 0), 0),
+        bits::join4(field(h, 0), 0),
     ]
 }
 
@@ -230,14 +239,14 @@ fn ten(x: Parts) -> [u8; 10]
 fn packable(n: u8, x: Parts, room: usize) -> Checked
     ensures { λ r. ⌜ checkedOf r ≡ packRefusal n (blockOf x) room ⌝ }
 {
-    if 9 < n {
+    if MOST_INPUTS < n {
         return Checked::Refused(Refusal::R1);
     }
     let found = fault(n, x);
     match found {
         Checked::Refused(k) => Checked::Refused(k),
         Checked::Fine => {
-            if room < 10 {
+            if room < BLOCK_BYTES {
                 Checked::Refused(Refusal::R5)
             } else {
                 Checked::Fine
@@ -256,7 +265,7 @@ pub fn pack(n: u8, x: Parts, out: &mut [u8]) -> Written
         Checked::Fine => {
             let made = ten(x);
             bytes::copy(&made, out);
-            Written::Length(10)
+            Written::Length(BLOCK_BYTES)
         }
     }
 }

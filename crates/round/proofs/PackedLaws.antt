@@ -31,7 +31,7 @@ unfolding packOf
 last-clear x = omega arith
 
 module _ (n : ℕ) (b : Block) (given : Acceptable n b) where
-  small : FieldsOfFour (partsOf b)
+  pub small : FieldsOfFour (partsOf b)
   small =
       let same = device-parts b (given .device) in
       let fit : fieldsFit n (blockOf (partsOf b)) ≡ true = rw same (given .tidy .fields) in
@@ -45,7 +45,7 @@ module _ (n : ℕ) (b : Block) (given : Acceptable n b) where
       let again = parts-again (partsOf b) small (d .in-f .rows-fit) (d .in-g .rows-fit) (d .h-fits) in
       rw same at again
 
-  packed-ten : length (packOf b) ≡ 10
+  pub packed-ten : length (packOf b) ≡ 10
   packed-ten =
       let same = device-parts b (given .device) in
       ap (λ (c : Block). length (packOf c)) (sym same) ∙ packed-length (partsOf b)
@@ -90,8 +90,9 @@ none-of-acceptable n b room given enough =
     sym (pack-accepts n b room (given .within) (sym (none-of-tidy n b (given .tidy))) enough)
 
 -- packing is one-to-one
-pub packOf-injective : (n : ℕ) (b c : Block) → Acceptable n b → Acceptable n c → packOf b ≡ packOf c → b ≡ c
-packOf-injective n b c p q e = sym (unpackOf-packOf n b p) ∙ ap unpackOf e ∙ unpackOf-packOf n c q
+pub packOf-injective : (n m : ℕ) (b c : Block) → Acceptable n b → Acceptable m c
+    → packOf b ≡ packOf c → b ≡ c
+packOf-injective n m b c p q e = sym (unpackOf-packOf n b p) ∙ ap unpackOf e ∙ unpackOf-packOf m c q
 
 -- ten bytes unpack to a block of the device
 pub unpacked-device : (s : List ℕ) → Device (unpackOf s)

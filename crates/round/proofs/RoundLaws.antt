@@ -1,11 +1,12 @@
--- Unpacking what was packed gives the same fields and tables, and accepted bytes repack to themselves.
--- Assumes nothing.
+-- Unpacking what was packed gives the same fields and tables, and accepted bytes repack to
+-- themselves. Assumes nothing.
 use mathlib.Core.Path.{_≡_, sym, ap, _∙_}
 use mathlib.Core.List.{List, [], _∷_, _++_}
 use Prim.Native.Nat.{ℕ, suc, _+_, _*_, _/_, _%_, _<_}
 use native.Mathlib.Omega.{arith}
 use lib.ListN.{length, getD}
 use Rattle.bits.specs.Bits.{nibble, nibbles, joined, split, bytesOf}
+use Rattle.bits.proofs.MaskLaws.{field-lt, nibble-lt}
 use Rattle.block.specs.declared.Parts.{Parts}
 use Rattle.block.specs.Block.{Block, Device}
 use Rattle.block.specs.Code.{blockOf}
@@ -18,9 +19,6 @@ use Rattle.round.proofs.FieldTrip.{split-two, four-of, ten-of}
 -- a block of the device is its parts
 pub device-parts : (b : Block) → Device b → blockOf (partsOf b) ≡ b
 device-parts b d = rw (← four-of (b .f .pins) (d .in-f .four), ← four-of (b .g .pins) (d .in-g .four))
-
-field-lt : (x : ℕ) → x % 16 < 16
-field-lt x = omega arith
 
 -- sixteen rows, and eight, put together again from their fields
 rows-again : (x : ℕ) → x < 65536 → joined 0 (split 4 x) ≡ x
@@ -65,16 +63,13 @@ module _ (x : Parts) (small : FieldsOfFour x)
 
 -- the fields of ten bytes, all but the last
 module _ (s : List ℕ) where
-  nibble-lt : (i : ℕ) → nibble s i < 16
-  nibble-lt i = omega arith
-
   rows-fields : (i : ℕ) → split 4 (joined 0 (nibbles s i 4)) ≡ nibbles s i 4
   rows-fields i =
       split-four _ _ _ _
-      (nibble-lt i) (nibble-lt (suc i)) (nibble-lt (suc (suc i))) (nibble-lt (suc (suc (suc i))))
+      (nibble-lt s i) (nibble-lt s (suc i)) (nibble-lt s (suc (suc i))) (nibble-lt s (suc (suc (suc i))))
 
   eight-fields : split 2 (joined 0 (nibbles s 17 2)) ≡ nibbles s 17 2
-  eight-fields = split-two _ _ (nibble-lt 17) (nibble-lt 18)
+  eight-fields = split-two _ _ (nibble-lt s 17) (nibble-lt s 18)
 
   unpacked-fields : fieldsOf (unpackOf s)
       ≡ nibbles s 0 4

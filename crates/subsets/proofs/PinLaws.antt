@@ -1,13 +1,13 @@
 -- The pins of the table's sets are the tidy choices of four pins: none is missed, and each is one.
 -- Each law reads a test over a finite domain: all fours of fields, or all 512 masks. Assumes nothing.
 use mathlib.Core.Path.{_≡_, refl}
-use mathlib.Core.Bool.{Bool, true, false, not, _&&_, _||_, Bool·beq}
+use mathlib.Core.Bool.{Bool, true, not, _&&_, _||_, Bool·beq}
 use mathlib.Core.List.{List, [], _∷_}
 use Prim.Native.Nat.{ℕ, _+_, _^_, _<_}
 use native.Mathlib.Omega.{arith}
-use lib.Dec.{eqb, ltb}
+use lib.Dec.{eqb}
 use lib.ListN.{length, getD}
-use borrow.Author.Tests.{eqb-true, ltb-true, le-leb}
+use borrow.Author.Tests.{eqb-true, le-leb}
 use Rattle.bits.specs.Tests.{below, every, pick}
 use Rattle.block.specs.Block.{isOpen}
 use Rattle.block.specs.Table.{mostInputs}
@@ -15,7 +15,8 @@ use Rattle.block.specs.Tidy.{fieldFits, ordered}
 use Rattle.block.specs.Kind.{carries}
 use Rattle.subsets.specs.Masks.{has, variablesFrom, variablesIn, pinsOfMask, Small, TidyChoice}
 use Rattle.subsets.specs.Masks.{masks}
-use Rattle.bits.proofs.TestLaws.{both-left, both-right, implied, or-cases, below-at}
+use Rattle.block.proofs.TidyLaws.{fits-lt}
+use Rattle.bits.proofs.TestLaws.{same-bool, both-left, both-right, implied, below-at}
 use Rattle.bits.proofs.ListLaws.{every-at, alike, alike-eq}
 use Rattle.subsets.proofs.MaskLaws.{atMostFour, small, small→Small, masks-rule}
 
@@ -47,15 +48,10 @@ all-found : below foundA 16 ≡ true
 unfolding variablesFrom variablesIn pinsOfMask ordered
 all-found = refl
 
-fits-sixteen : (pin : ℕ) → fieldFits mostInputs pin ≡ true → pin < 16
-fits-sixteen pin h =
-    or-cases (ltb pin mostInputs) (isOpen pin) (pin < 16) h
-    (λ carried. omega (arith, ltb-true pin mostInputs carried))
-    (λ opened. omega (arith, eqb-true pin 15 opened))
-
 module _ (a b c d : ℕ) (fields : every (fieldFits mostInputs) (a ∷ b ∷ c ∷ d ∷ []) ≡ true) where
   field-lt : (k : ℕ) → k < 4 → getD (a ∷ b ∷ c ∷ d ∷ []) k 0 < 16
-  field-lt k l = fits-sixteen _ (every-at (fieldFits mostInputs) (a ∷ b ∷ c ∷ d ∷ []) fields k l)
+  field-lt k l =
+      fits-lt mostInputs _ (omega arith) (every-at (fieldFits mostInputs) (a ∷ b ∷ c ∷ d ∷ []) fields k l)
 
   found-at : found a b c d ≡ true
   found-at =
@@ -110,12 +106,6 @@ all-right : below rightIfSmall 512 ≡ true
 unfolding variablesFrom variablesIn pinsOfMask ordered carries
 all-right = refl
 
-beq-eq : (a b : Bool) → Bool·beq a b ≡ true → a ≡ b
-beq-eq true true h = refl
-beq-eq true false h = cc
-beq-eq false true h = cc
-beq-eq false false h = refl
-
 module _ (m : ℕ) (small-m : Small m) where
   right-at : maskRight m ≡ true
   right-at =
@@ -134,7 +124,7 @@ module _ (m : ℕ) (small-m : Small m) where
 
   pub carries-mask : (v : ℕ) → v < mostInputs → carries (pinsOfMask m) v ≡ has m v
   carries-mask v l =
-      beq-eq _ _ (below-at (carriesRight m) mostInputs (both-right (pinsRight m) _ right-at) v l)
+      same-bool _ _ (below-at (carriesRight m) mostInputs (both-right (pinsRight m) _ right-at) v l)
 
 pub sound-pins : (k : ℕ) → k < 256 → TidyChoice (pinsOfMask (getD masks k 0))
 sound-pins k l = pins-tidy (getD masks k 0) (masks-rule .sound k l)

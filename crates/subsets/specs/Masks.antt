@@ -1,7 +1,6 @@
 -- A four-pin table's tidy choice is a set of at most four variables. There are 256 such sets for nine
 -- variables (document 01, "Ten bytes"). A set is a mask here: variable v is in mask m when bit v of m
--- is 1.
--- Assumes nothing.
+-- is 1. Assumes nothing.
 use Prim.Native.Nat.{ℕ, zero, suc, _<_, _≤_, _^_}
 use mathlib.Core.Path.{_≡_}
 use mathlib.Core.Bool.{Bool, true, false}

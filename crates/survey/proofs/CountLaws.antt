@@ -1,6 +1,5 @@
--- How many numbers below n a test holds of: of two tests together, of a test without one number or with
--- it.
--- Assumes nothing.
+-- How many numbers below n a test holds of: of two tests together, of a test without one number or
+-- with it. Assumes nothing.
 use mathlib.Core.Path.{_≡_, refl, sym, _∙_}
 use mathlib.Core.Bool.{Bool, true, false, not, _&&_, _||_, and-false}
 use mathlib.Core.Logic.{⊎-elim}

@@ -1,6 +1,5 @@
 -- What the thirteen rows allow, by one test over them: letter A with digit x up to 4 and 9 - x
--- variables,
--- letter B with x up to 3 and 8 - x, letter C with x up to 3 and 7 - x. Assumes nothing.
+-- variables, letter B with x up to 3 and 8 - x, letter C with x up to 3 and 7 - x. Assumes nothing.
 use mathlib.Core.Path.{_≡_, refl}
 use mathlib.Core.Bool.{Bool, true, false, not, _&&_, _||_, false≢true}
 use mathlib.Core.List.{List, [], _∷_}
@@ -14,7 +13,7 @@ use Rattle.bits.specs.Tests.{below}
 use Rattle.block.specs.declared.Letter.{Letter}
 use Rattle.block.specs.declared.Letter.the-variants.{A, B, C}
 use Rattle.bits.proofs.TestLaws.{both-left, both-right, implied, or-cases, below-at}
-use Rattle.survey.specs.Survey.{Row, row, thirteen, rowAt, Within}
+use Rattle.survey.specs.Survey.{TypeRow, typeRow, thirteen, typeRowAt, Within}
 
 abbrev pub sameLetter : Letter → Letter → Bool
 sameLetter A A = true
@@ -39,18 +38,18 @@ sameLetter-eq C B h = cc
 sameLetter-eq C C h = refl
 
 -- a row has this type and allows so many variables
-abbrev allows : Letter → ℕ → ℕ → Row → Bool
+abbrev allows : Letter → ℕ → ℕ → TypeRow → Bool
 allows l x variables r = sameLetter (r .letter) l && (eqb (r .digit) x && leb variables (r .most))
 
-abbrev someAllows : Letter → ℕ → ℕ → List Row → Bool
+abbrev someAllows : Letter → ℕ → ℕ → List TypeRow → Bool
 someAllows l x variables [] = false
 someAllows l x variables (r ∷ rows) = allows l x variables r || someAllows l x variables rows
 
 module _ (l : Letter) (x variables : ℕ) where
-  abbrev Allowed : List Row → Type 0
-  Allowed rows = (k : ℕ) × (k < length rows) × (allows l x variables (getD rows k (row A 0 0)) ≡ true)
+  abbrev Allowed : List TypeRow → Type 0
+  Allowed rows = (k : ℕ) × (k < length rows) × (allows l x variables (getD rows k (typeRow A 0 0)) ≡ true)
 
-  allowed : (rows : List Row) → someAllows l x variables rows ≡ true → Allowed rows
+  allowed : (rows : List TypeRow) → someAllows l x variables rows ≡ true → Allowed rows
   allowed [] h = absurd (false≢true h)
   allowed (r ∷ rows) h =
       or-cases (allows l x variables r) (someAllows l x variables rows) (Allowed (r ∷ rows)) h
@@ -61,7 +60,7 @@ module _ (l : Letter) (x variables : ℕ) where
   unfolding thirteen
   in-thirteen h =
       let found = allowed thirteen h in
-      let r = rowAt (found .0) in
+      let r = typeRowAt (found .0) in
       let numbers = both-right (sameLetter (r .letter) l) _ (found .2) in
       record {
         place = found .0;

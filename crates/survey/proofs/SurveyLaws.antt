@@ -1,6 +1,5 @@
 -- The survey holds: no wiring of the table's sets exceeds the thirteen rows, by the test of every
--- wiring, and
--- each row is reached, by a test of one wiring for each row. Assumes nothing.
+-- wiring, and each row is reached, by a test of one wiring for each row. Assumes nothing.
 use mathlib.Core.Path.{_≡_, refl}
 use mathlib.Core.Bool.{Bool, true, false, _&&_}
 use mathlib.Core.List.{List, [], _∷_}
@@ -16,7 +15,7 @@ use Rattle.block.specs.Tidy.{fieldFits}
 use Rattle.block.specs.Kind.{carries, letterOf, digitOf, variablesOf}
 use Rattle.subsets.specs.Masks.{variablesFrom, variablesIn, pinsOfMask, masks}
 use Rattle.bits.proofs.TestLaws.{both-left, both-right, or-cases, below-at}
-use Rattle.survey.specs.Survey.{Row, thirteen, rowAt, wired, Wiring, Typed, Reached, Bridged}
+use Rattle.survey.specs.Survey.{TypeRow, thirteen, typeRowAt, wired, Wiring, Known, Reached, Bridged}
 use Rattle.survey.specs.Survey.{Survey}
 use Rattle.survey.proofs.RowLaws.{sameLetter, sameLetter-eq}
 use Rattle.survey.proofs.WiringTest.{pair-within}
@@ -27,15 +26,15 @@ carries-open : (pins : List ℕ) (v : ℕ) → isOpen v ≡ true → carries pin
 unfolding carries
 carries-open pins v opened = rw opened
 
-pub wired-typed : (i j d : ℕ) → Wiring i j d → Typed (wired i j d)
+pub wired-known : (i j d : ℕ) → Wiring i j d → Known (wired i j d)
 unfolding wired letterOf digitOf variablesOf
-wired-typed i j d w =
+wired-known i j d w =
     let f-pins = pinsOfMask (getD masks i 0) in
     let g-pins = pinsOfMask (getD masks j 0) in
     let f = carries f-pins in
     let g = carries g-pins in
     let test = pair-within i j (w .f-set) (w .g-set) in
-    or-cases (ltb d mostInputs) (isOpen d) (Typed (wired i j d)) (w .direct-pin)
+    or-cases (ltb d mostInputs) (isOpen d) (Known (wired i j d)) (w .direct-pin)
     (λ low. carried-within f g d mostInputs test (ltb-true d mostInputs low))
     (λ opened.
     open-within f g d mostInputs test (carries-open f-pins d opened) (carries-open g-pins d opened)
@@ -53,9 +52,8 @@ record Beside : Type 0 where
 abbrev beside : ℕ → ℕ → Beside
 beside j d = record { g-set = j; direct = d }
 
--- one for each of the thirteen rows. The sets 0, 93, 157, 199 and 225 are four variables in succession,
--- from
--- 0, 1, 2, 3 and 4 on.
+-- one for each of the thirteen rows. The sets 0, 93, 157, 199 and 225 are four variables in
+-- succession, from 0, 1, 2, 3 and 4 on.
 abbrev examples : List Beside
 examples =
     beside 225 8 ∷ beside 199 7 ∷ beside 157 6 ∷ beside 93 5 ∷ beside 0 4
@@ -75,13 +73,13 @@ wiring→Wiring i j d h =
       direct-pin = both-right (ltb j 256) _ rest;
     }
 
-abbrev reaches : Row → ℕ → ℕ → ℕ → Bool
+abbrev reaches : TypeRow → ℕ → ℕ → ℕ → Bool
 reaches r i j d =
     wiring i j d
     && (sameLetter (letterOf (wired i j d)) (r .letter)
     && (eqb (digitOf (wired i j d)) (r .digit) && eqb (variablesOf (wired i j d)) (r .most)))
 
-reaches→Reached : (r : Row) (i j d : ℕ) → reaches r i j d ≡ true → Reached r
+reaches→Reached : (r : TypeRow) (i j d : ℕ) → reaches r i j d ≡ true → Reached r
 reaches→Reached r i j d h =
     let kind = both-right (wiring i j d) _ h in
     let numbers = both-right (sameLetter (letterOf (wired i j d)) (r .letter)) _ kind in
@@ -99,16 +97,16 @@ abbrev exampleAt : ℕ → Beside
 exampleAt k = getD examples k (beside 0 0)
 
 abbrev reachesAt : ℕ → Bool
-reachesAt k = reaches (rowAt k) 0 (exampleAt k .g-set) (exampleAt k .direct)
+reachesAt k = reaches (typeRowAt k) 0 (exampleAt k .g-set) (exampleAt k .direct)
 
 all-reached : below reachesAt 13 ≡ true
 unfolding thirteen wired letterOf digitOf variablesOf carries masks variablesFrom variablesIn pinsOfMask
 all-reached = refl
 
-reached : (k : ℕ) → k < 13 → Reached (rowAt k)
+reached : (k : ℕ) → k < 13 → Reached (typeRowAt k)
 reached k l =
     let e = exampleAt k in
-    reaches→Reached (rowAt k) 0 (e .g-set) (e .direct) (below-at reachesAt 13 all-reached k l)
+    reaches→Reached (typeRowAt k) 0 (e .g-set) (e .direct) (below-at reachesAt 13 all-reached k l)
 
 f-bridged : Bridged true false
 unfolding wired letterOf carries masks variablesFrom variablesIn pinsOfMask
@@ -140,7 +138,7 @@ pub survey : Survey
 survey =
     record {
       count = count;
-      within = wired-typed;
+      within = wired-known;
       reached = reached;
       f-bridged = f-bridged;
       g-bridged = g-bridged;

@@ -1,6 +1,5 @@
--- What the test of two sets says of each direct pin: the three tallies are counts of the numbers below
--- n, and
--- digit and variables of the wiring go by them. Assumes nothing.
+-- What the test of two sets says of each direct pin: the three tallies are counts of the numbers
+-- below n, and digit and variables of the wiring go by them. Assumes nothing.
 use mathlib.Core.Path.{_≡_, refl, sym, _∙_}
 use mathlib.Core.Bool.{Bool, true, false, not, _&&_, _||_, Bool·beq, and-assoc, or-assoc}
 use mathlib.Core.List.{List, _∷_}

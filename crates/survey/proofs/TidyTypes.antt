@@ -1,6 +1,6 @@
--- Every tidy block of at most nine inputs has one of the thirteen types, and no more variables than its
--- row
--- allows: its pins are those of two sets of the table, so some wiring has its type. Assumes nothing.
+-- Every tidy block of at most nine inputs has one of the thirteen types, and no more variables than
+-- its row allows: its pins are those of two sets of the table, so some wiring has its type. Assumes
+-- nothing.
 use mathlib.Core.Path.{_≡_, refl}
 use mathlib.Core.Bool.{true}
 use mathlib.Core.List.{[], _∷_, _++_}
@@ -17,8 +17,8 @@ use Rattle.subsets.specs.Masks.{TidyChoice}
 use Rattle.bits.proofs.TestLaws.{both-left, or-cases}
 use Rattle.bits.proofs.ListLaws.{every-after, every-before, every-implied}
 use Rattle.subsets.proofs.PinLaws.{listed-choice}
-use Rattle.survey.specs.Survey.{wired, Typed}
-use Rattle.survey.proofs.SurveyLaws.{wired-typed}
+use Rattle.survey.specs.Survey.{wired, Known}
+use Rattle.survey.proofs.SurveyLaws.{wired-known}
 
 -- a field that fits n inputs fits nine
 fits-nine : (n pin : ℕ) → n ≤ mostInputs → fieldFits n pin ≡ true → fieldFits mostInputs pin ≡ true
@@ -30,7 +30,7 @@ fits-nine n pin most fits =
 -- the type and the number of variables go by the pins alone
 typed-by-pins : (b c : Block) → b .f .pins ≡ c .f .pins → b .g .pins ≡ c .g .pins
     → b .direct ≡ c .direct
-    → Typed b → Typed c
+    → Known b → Known c
 unfolding letterOf digitOf variablesOf
 typed-by-pins b c same-f same-g same-direct typed = rw (← same-f, ← same-g, ← same-direct) typed
 
@@ -59,12 +59,12 @@ module _ (n : ℕ) (b : Block) (most : n ≤ mostInputs) (device : Device b) (ti
       }
 
   -- the block is wired as two sets of the table are
-  pub tidy-typed : Typed b
+  pub tidy-known : Known b
   unfolding wired
-  tidy-typed =
+  tidy-known =
       let f-set = listed-choice (b .f .pins) f-choice in
       let g-set = listed-choice (b .g .pins) g-choice in
       let fits = both-left _ _ (every-after (fieldFits mostInputs) (b .g .pins) (b .direct ∷ []) after-f) in
       let like = wired (f-set .0) (g-set .0) (b .direct) in
       typed-by-pins like b (f-set .2) (g-set .2) refl
-      (wired-typed _ _ _ (record { f-set = f-set .1; g-set = g-set .1; direct-pin = fits }))
+      (wired-known _ _ _ (record { f-set = f-set .1; g-set = g-set .1; direct-pin = fits }))

@@ -1,10 +1,7 @@
 -- The test of every wiring, computed once. For each two of the 256 sets it goes through the nine
--- variables
--- and tallies those that both sets have, that one has, that neither has. As the direct pin, the
--- variables of
--- one tally all give the same type and number of variables: the test asks that the rows allow these,
--- for each
--- tally that is not empty, and for the open pin. Assumes nothing.
+-- variables and tallies those that both sets have, that one has, that neither has. As the direct pin,
+-- the variables of one tally all give the same type and number of variables: the test asks that the
+-- rows allow these, for each tally that is not empty, and for the open pin. Assumes nothing.
 use mathlib.Core.Path.{_≡_, refl}
 use mathlib.Core.Bool.{Bool, true, false, _&&_, _||_}
 use mathlib.Core.List.{List, [], _∷_, map}

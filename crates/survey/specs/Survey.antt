@@ -1,7 +1,6 @@
 -- Which types occur, and the most variables a block of each type carries (document 01, "The type").
--- Source 000
--- lists nine of the thirteen and drops A-4, B-3, C-2 and C-3 as trivial; here they occur. Assumes
--- nothing.
+-- Source 000 lists nine of the thirteen and drops A-4, B-3, C-2 and C-3 as trivial; here they occur.
+-- Assumes nothing.
 use Prim.Native.Nat.{ℕ, _<_, _≤_}
 use mathlib.Core.Path.{_≡_}
 use mathlib.Core.Bool.{Bool, true, false}
@@ -16,39 +15,42 @@ use Rattle.block.specs.Kind.{carries, letterOf, digitOf, variablesOf}
 use Rattle.subsets.specs.Masks.{pinsOfMask, masks}
 
 -- a type and the most variables of its blocks
-pub record Row : Type 0 where
+pub record TypeRow : Type 0 where
   pub letter : Letter
   pub digit : ℕ
   pub most : ℕ
 
-abbrev pub row : Letter → ℕ → ℕ → Row
-row l x most = record { letter = l; digit = x; most = most }
+-- letter, digit, most
+abbrev pub typeRow : (l : Letter) (x most : ℕ) → TypeRow
+typeRow l x most = record { letter = l; digit = x; most = most }
 
-unfoldable pub thirteen : List Row
+-- A-0 to A-4, B-0 to B-3, C-0 to C-3
+unfoldable pub thirteen : List TypeRow
 thirteen =
-    row A 0 9 ∷ row A 1 8 ∷ row A 2 7 ∷ row A 3 6 ∷ row A 4 5
-    ∷ row B 0 8 ∷ row B 1 7 ∷ row B 2 6 ∷ row B 3 5
-    ∷ row C 0 7 ∷ row C 1 6 ∷ row C 2 5 ∷ row C 3 4
+    typeRow A 0 9 ∷ typeRow A 1 8 ∷ typeRow A 2 7 ∷ typeRow A 3 6 ∷ typeRow A 4 5
+    ∷ typeRow B 0 8 ∷ typeRow B 1 7 ∷ typeRow B 2 6 ∷ typeRow B 3 5
+    ∷ typeRow C 0 7 ∷ typeRow C 1 6 ∷ typeRow C 2 5 ∷ typeRow C 3 4
     ∷ []
 
-abbrev pub rowAt : ℕ → Row
-rowAt k = getD thirteen k (row A 0 0)
+-- the row at a place
+abbrev pub typeRowAt : ℕ → TypeRow
+typeRowAt k = getD thirteen k (typeRow A 0 0)
 
 -- a type of the thirteen, with no more variables than its row allows
 pub record Within (l : Letter) (x variables : ℕ) : Type 0 where
   pub place : ℕ
   pub listed : place < 13
-  pub letter : rowAt place .letter ≡ l
-  pub digit : rowAt place .digit ≡ x
-  pub few : variables ≤ rowAt place .most
+  pub letter : typeRowAt place .letter ≡ l
+  pub digit : typeRowAt place .digit ≡ x
+  pub few : variables ≤ typeRowAt place .most
 
 -- the block's type is one of the thirteen, and it carries no more variables than that row allows
-abbrev pub Typed : Block → Type 0
-Typed b = Within (letterOf b) (digitOf b) (variablesOf b)
+abbrev pub Known : Block → Type 0
+Known b = Within (letterOf b) (digitOf b) (variablesOf b)
 
--- F on the pins of set i, G on those of set j, the direct pin d; every table is 0, as the type goes by
--- pins alone
-unfoldable pub wired : ℕ → ℕ → ℕ → Block
+-- F on the pins of set i, G on those of set j, the direct pin d; every table is 0, as the type goes
+-- by pins alone
+unfoldable pub wired : (i j d : ℕ) → Block
 wired i j d =
     record {
       f = record { pins = pinsOfMask (getD masks i 0); rows = 0 };
@@ -64,7 +66,7 @@ pub record Wiring (i j d : ℕ) : Type 0 where
   pub direct-pin : fieldFits mostInputs d ≡ true
 
 -- some wiring has the type of this row and exactly as many variables as it says
-pub record Reached (of : Row) : Type 0 where
+pub record Reached (of : TypeRow) : Type 0 where
   pub i : ℕ
   pub j : ℕ
   pub d : ℕ
@@ -86,7 +88,7 @@ pub record Bridged (in-f in-g : Bool) : Type 0 where
 -- no wiring exceeds the thirteen rows, each row is reached, and either table may be the bridged one
 pub record Survey : Type 0 where
   pub count : length thirteen ≡ 13
-  pub within : (i j d : ℕ) → Wiring i j d → Typed (wired i j d)
-  pub reached : (k : ℕ) → k < 13 → Reached (rowAt k)
+  pub within : (i j d : ℕ) → Wiring i j d → Known (wired i j d)
+  pub reached : (k : ℕ) → k < 13 → Reached (typeRowAt k)
   pub f-bridged : Bridged true false
   pub g-bridged : Bridged false true

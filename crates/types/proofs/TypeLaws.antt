@@ -1,5 +1,5 @@
--- Carried variables by four pins, a count one number at a time, and that the promise leaves one answer.
--- Assumes nothing.
+-- Carried variables by four pins, a count one number at a time, and that the promise leaves one
+-- answer. Assumes nothing.
 use mathlib.Core.Path.{_≡_, sym, ap, _∙_}
 use mathlib.Core.Bool.{Bool, true, false, not, _&&_, _||_, or-false}
 use mathlib.Core.List.{List, [], _∷_}
@@ -21,7 +21,7 @@ use Rattle.codec.specs.Ten.{unpackOf}
 use Rattle.codec.specs.Check.{checkRefusal}
 use Rattle.types.specs.declared.Typed.{Typed}
 use Rattle.types.specs.declared.Typed.the-variants.{Is, Refused}
-use Rattle.types.specs.Typing.{lettered, typedOf, typeAnswer}
+use Rattle.types.specs.Typing.{lettered, typedOf, typeAnswer, Types}
 
 pub carries-four : (v a b c d : ℕ)
     → not (isOpen v) && (eqb v a || (eqb v b || (eqb v c || eqb v d))) ≡ carries (a ∷ b ∷ c ∷ d ∷ []) v
@@ -68,6 +68,5 @@ same-typed (Refused k) (Is m) e = absurd (never-refused (lettered m) (0, 0) k (s
 same-typed (Refused k) (Refused m) e =
     ap Refused (number-injective k m (ap (λ (a : Answer (ℕ × ℕ)). a .number) e))
 
-pub type-unique : (n : ℕ) (s : List ℕ) (r q : Typed) → typedOf r ≡ typeAnswer n s
-    → typedOf q ≡ typeAnswer n s → r ≡ q
+pub type-unique : (n : ℕ) (s : List ℕ) (r q : Typed) → Types n s r → Types n s q → r ≡ q
 type-unique n s r q p p' = same-typed r q (p ∙ sym p')

@@ -2,10 +2,12 @@
 ghost use mathlib.Core.Path.{_≡_};
 ghost use Rattle.block.specs.Code.{lutOf, blockOf};
 ghost use Rattle.block.specs.Kind.{carries, letterBy, isShared, digitOf, typeOf};
-ghost use Rattle.types.specs.Typing.{typedOf, typeAnswer};
+ghost use Rattle.types.specs.Typing.{Types};
 use block::FourPin;
 use block::Kind;
 use block::Letter;
+use block::MOST_INPUTS;
+use block::OPEN;
 use block::Parts;
 use block::Refusal;
 use codec::Unpacked;
@@ -14,8 +16,6 @@ pub enum Typed {
     Is(Kind),
     Refused(Refusal),
 }
-
-const OPEN: u8 = 15;
 
 // Whether one of the four pins carries variable v.
 fn carried(t: FourPin, v: u8) -> bool
@@ -38,7 +38,7 @@ fn digit(x: Parts) -> u8
 {
     let mut found: u8 = 0;
     let mut v: u8 = 0;
-    while v < 9 {
+    while v < MOST_INPUTS {
         if shared(x, v) {
             found += 1;
         }
@@ -77,7 +77,7 @@ fn kind(x: Parts) -> Kind
 
 // The type of the block in ten bytes.
 pub fn type_of(n: u8, s: &[u8]) -> Typed
-    ensures { λ r. ⌜ typedOf r ≡ typeAnswer n (now (s .entry)) ⌝ }
+    ensures { λ r. ⌜ Types n (now (s .entry)) r ⌝ }
 {
     let unpacked = codec::unpack(n, s);
     match unpacked {

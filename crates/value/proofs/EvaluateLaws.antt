@@ -14,6 +14,7 @@ use Rattle.codec.specs.Ten.{unpackOf}
 use Rattle.codec.specs.Check.{checkCases, checkRefusal}
 use Rattle.value.specs.declared.Evaluated.{Evaluated}
 use Rattle.value.specs.declared.Evaluated.the-variants.{Bit, Refused}
+use Rattle.value.specs.Evaluate.{Evaluates}
 use Rattle.value.specs.Evaluate.{noSuchRow, rowRefusal, evaluateRefusal, evaluatedOf}
 use Rattle.value.specs.Evaluate.{evaluateAnswer}
 
@@ -52,5 +53,5 @@ same-evaluated (Refused k) (Refused m) e =
     ap Refused (number-injective k m (ap (λ (a : Answer ℕ). a .number) e))
 
 pub evaluate-unique : (n : ℕ) (s : List ℕ) (row : ℕ) (r q : Evaluated)
-    → evaluatedOf r ≡ evaluateAnswer n s row → evaluatedOf q ≡ evaluateAnswer n s row → r ≡ q
+    → Evaluates n s row r → Evaluates n s row q → r ≡ q
 evaluate-unique n s row r q p p' = same-evaluated r q (p ∙ sym p')

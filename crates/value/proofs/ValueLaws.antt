@@ -12,20 +12,20 @@ use Rattle.block.specs.Value.{pinValue, selected, lutValue, hValue, blockValue}
 
 -- four pins weigh 8, 4, 2, 1
 pub four-weights : (r a b c d : ℕ)
-    → 8 * pinValue r a + 4 * pinValue r b + 2 * pinValue r c + pinValue r d ≡ selected r (a ∷ b ∷ c ∷ d ∷ [])
+    → 8 * pinValue a r + 4 * pinValue b r + 2 * pinValue c r + pinValue d r ≡ selected (a ∷ b ∷ c ∷ d ∷ []) r
 unfolding selected
 four-weights r a b c d = omega arith
 
 pub lut-row : (t : FourPin) (r : ℕ)
     → rowOf 16 (t .rows)
-    (8 * pinValue r (t .a) + 4 * pinValue r (t .b) + 2 * pinValue r (t .c) + pinValue r (t .d))
+    (8 * pinValue (t .a) r + 4 * pinValue (t .b) r + 2 * pinValue (t .c) r + pinValue (t .d) r)
     ≡ lutValue (lutOf t) r
 unfolding lutValue
 lut-row t r = ap (rowOf 16 (t .rows)) (four-weights r (t .a) (t .b) (t .c) (t .d))
 
 pub h-row : (x : Parts) (r : ℕ)
     → bitAnd
-    (x .h / 2 ^ (7 - (4 * lutValue (lutOf (x .f)) r + 2 * lutValue (lutOf (x .g)) r + pinValue r (x .direct)))) 1
+    (x .h / 2 ^ (7 - (4 * lutValue (lutOf (x .f)) r + 2 * lutValue (lutOf (x .g)) r + pinValue (x .direct) r))) 1
     ≡ blockValue (blockOf x) r
 unfolding blockValue hValue
 h-row x r = and-mask _ 1

@@ -6,8 +6,10 @@ ghost use Rattle.block.specs.Code.{lutOf, blockOf};
 ghost use Rattle.block.specs.Value.{pinValue, lutValue, blockValue};
 ghost use Rattle.block.specs.Answer.{answered};
 ghost use Rattle.codec.specs.Ten.{FourBits, FieldsOfFour};
-ghost use Rattle.value.specs.Evaluate.{rowRefusal, evaluatedOf, evaluateAnswer};
+ghost use Rattle.value.specs.Evaluate.{rowRefusal, evaluatedOf, Evaluates};
 use block::FourPin;
+use block::OPEN;
+use block::OPEN_LEVEL;
 use block::Parts;
 use block::Refusal;
 use codec::Unpacked;
@@ -17,13 +19,9 @@ pub enum Evaluated {
     Refused(Refusal),
 }
 
-const OPEN: u8 = 15;
-
-const OPEN_LEVEL: u8 = 0;
-
 fn pin_value(row: u32, pin: u8) -> u8
     requires { ⌜ pin < 16 ⌝ }
-    ensures { λ r. ⌜ (r ≡ pinValue row pin) × (r < 2) ⌝ }
+    ensures { λ r. ⌜ (r ≡ pinValue pin row) × (r < 2) ⌝ }
 {
     if pin == OPEN {
         return OPEN_LEVEL;
@@ -72,7 +70,7 @@ fn value_at(n: u8, x: Parts, row: u32) -> Evaluated
 
 // The value's bit at a row of the block in ten bytes.
 pub fn evaluate(n: u8, s: &[u8], row: u32) -> Evaluated
-    ensures { λ r. ⌜ evaluatedOf r ≡ evaluateAnswer n (now (s .entry)) row ⌝ }
+    ensures { λ r. ⌜ Evaluates n (now (s .entry)) row r ⌝ }
 {
     let unpacked = codec::unpack(n, s);
     match unpacked {

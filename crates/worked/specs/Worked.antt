@@ -15,8 +15,8 @@ use Rattle.block.specs.Refusal.{tableRefusal}
 use Rattle.codec.specs.Ten.{unpackOf}
 use Rattle.codec.specs.Check.{checkRefusal}
 
--- n and a table, with the type and the ten bytes of its block; or with the number of a refusal: of the
--- table, or of ten bytes
+-- n and a table, with the type and the ten bytes of its block; or with the number of a refusal: of
+-- the table, or of ten bytes
 pub data Example : Type 0 where
   matches : ℕ → List ℕ → Letter → ℕ → List ℕ → Example
   noTable : ℕ → List ℕ → ℕ → Example

@@ -14,7 +14,7 @@ returns : tie.Need-returns
 returns c =
     let s = c .before .args .s .now in
     let i = c .before .args .i in
-    rw (List·getD-eq-default s 0 {n = i / 2} (c .if1 .taken), zero-div)
+    rw (List·getD-eq-default s 0 {n = i / 2} (omega arith), zero-div)
 
 returns-2 : tie.Need-returns-2
 returns-2 c =
