@@ -10,32 +10,18 @@ use lib.Dec.{eqb, leb, ltb}
 use lib.ListN.{length, getD}
 use borrow.Author.Tests.{eqb-true, leb-true, ltb-true, le-leb}
 use Rattle.bits.specs.Tests.{below}
+use Rattle.block.specs.Kind.{letterCode}
+use Rattle.block.proofs.LetterLaws.{letterCode-injective}
 use Rattle.block.specs.declared.Letter.{Letter}
 use Rattle.block.specs.declared.Letter.the-variants.{A, B, C}
 use Rattle.bits.proofs.TestLaws.{both-left, both-right, implied, or-cases, below-at}
 use Rattle.survey.specs.Survey.{TypeRow, typeRow, thirteen, typeRowAt, Within}
 
-abbrev pub sameLetter : Letter → Letter → Bool
-sameLetter A A = true
-sameLetter A B = false
-sameLetter A C = false
-sameLetter B A = false
-sameLetter B B = true
-sameLetter B C = false
-sameLetter C A = false
-sameLetter C B = false
-sameLetter C C = true
+abbrev pub sameLetter : (l m : Letter) → Bool
+sameLetter l m = eqb (letterCode l) (letterCode m)
 
 pub sameLetter-eq : (l m : Letter) → sameLetter l m ≡ true → l ≡ m
-sameLetter-eq A A h = refl
-sameLetter-eq A B h = cc
-sameLetter-eq A C h = cc
-sameLetter-eq B A h = cc
-sameLetter-eq B B h = refl
-sameLetter-eq B C h = cc
-sameLetter-eq C A h = cc
-sameLetter-eq C B h = cc
-sameLetter-eq C C h = refl
+sameLetter-eq l m h = letterCode-injective l m (eqb-true (letterCode l) (letterCode m) h)
 
 -- a row has this type and allows so many variables
 abbrev allows : Letter → ℕ → ℕ → TypeRow → Bool
