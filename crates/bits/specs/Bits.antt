@@ -30,6 +30,14 @@ abbrev pub split : (count x : ℕ) → List ℕ
 split zero x = []
 split (suc count) x = (x / 16 ^ count % 16) ∷ split count x
 
+-- a byte of two fields, each cut to its four bits
+abbrev pub byteOf : (high low : ℕ) → ℕ
+byteOf high low = high % 16 * 16 + low % 16
+
+-- sixteen bits of two bytes
+abbrev pub wordOf : (high low : ℕ) → ℕ
+wordOf high low = high * 256 + low
+
 -- the bytes that fields make, two to a byte, the high one first
 abbrev pub bytesOf : List ℕ → List ℕ
 bytesOf [] = []

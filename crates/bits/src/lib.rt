@@ -1,8 +1,7 @@
 // Leaves over fields, by shifts and masks. Each accepts every input: past an end a field reads 0, and
 // what is joined is cut by the mask that the promise names.
 ghost use mathlib.Core.Path.{_≡_};
-ghost use Prim.Native.Nat.{_+_, _*_, _%_};
-ghost use Rattle.bits.specs.Bits.{nibble};
+ghost use Rattle.bits.specs.Bits.{nibble, byteOf, wordOf};
 
 // Field i of 4 bits.
 pub fn nibble(s: &[u8], i: usize) -> u8
@@ -18,14 +17,14 @@ pub fn nibble(s: &[u8], i: usize) -> u8
 
 // A byte of two fields.
 pub fn join4(high: u8, low: u8) -> u8
-    ensures { λ r. ⌜ r ≡ high % 16 * 16 + low % 16 ⌝ }
+    ensures { λ r. ⌜ r ≡ byteOf high low ⌝ }
 {
     ((high & 15) << 4) | (low & 15)
 }
 
 // Sixteen bits of two bytes.
 pub fn join8(high: u8, low: u8) -> u16
-    ensures { λ r. ⌜ r ≡ high * 256 + low ⌝ }
+    ensures { λ r. ⌜ r ≡ wordOf high low ⌝ }
 {
     ((high as u16) << 8) | (low as u16)
 }

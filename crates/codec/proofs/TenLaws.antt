@@ -4,14 +4,11 @@ use mathlib.Core.List.{[], _∷_}
 use Prim.Native.Nat.{ℕ, _+_, _*_, _/_, _%_, _<_}
 use native.Mathlib.Omega.{arith}
 use lib.ListN.{length}
+use Rattle.bits.specs.Bits.{byteOf}
 use Rattle.bits.proofs.MaskLaws.{field-lt}
 use Rattle.block.specs.declared.Parts.{Parts}
 use Rattle.block.specs.Code.{blockOf}
 use Rattle.codec.specs.Ten.{packOf, FieldsOfFour}
-
--- a byte of two fields
-abbrev pub byteOf : ℕ → ℕ → ℕ
-byteOf high low = high % 16 * 16 + low % 16
 
 byte-exact : (high low : ℕ) → high < 16 → low < 16 → byteOf high low ≡ high * 16 + low
 byte-exact high low h l = omega arith
