@@ -4,6 +4,7 @@ use crate::say;
 use crate::words;
 use block::FourPin;
 use block::Parts;
+use block::Written;
 
 fn unknown() {
     say::byte(b' ');
@@ -50,6 +51,20 @@ fn pack(n: u8, s: &[u8], room: usize) {
     }
 }
 
+// The type of the first block that computes the table, and its ten bytes.
+fn first(n: u8, t: &[u8]) {
+    let mut out = [0u8; 10];
+    let answer = matcher::first_match(n, t, &mut out);
+    match answer {
+        Written::Length(_) => {
+            say::typed(types::type_of(n, &out));
+            say::byte(b' ');
+            say::hexadecimal(&out);
+        }
+        Written::Refused(_) => say::written(answer),
+    }
+}
+
 // The questions that end in a number.
 fn ask_with(question: &[u8], n: u8, s: &[u8], last: &[u8]) {
     if !words::is_number(last, 10) {
@@ -70,15 +85,17 @@ fn ask(question: &[u8], n: u8, s: &[u8], last: &[u8]) {
         say::checked(codec::check(n, s));
     } else if words::same(question, b"type") {
         say::typed(types::type_of(n, s));
+    } else if words::same(question, b"match") {
+        first(n, s);
     } else {
         unknown();
     }
 }
 
-// n counts as 255 where it is greater; a word of more than sixteen bytes counts as sixteen.
+// n counts as 255 where it is greater; a word of more than 65 bytes counts as 65.
 fn asked(question: &[u8], n: &[u8], given: &[u8], last: &[u8]) {
     if words::is_number(n, 10) & words::is_bytes(given) {
-        let mut data = [0u8; 16];
+        let mut data = [0u8; 65];
         let len = words::bytes(given, &mut data);
         ask(question, words::decimal(n, 255) as u8, &data[0..len], last);
     } else {

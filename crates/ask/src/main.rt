@@ -5,7 +5,7 @@ mod say;
 mod words;
 
 fn main() {
-    let mut text = [0u8; 16384];
+    let mut text = [0u8; 49152];
     let used = input::all(&mut text);
     answers(&text[0..used]);
 }

@@ -13,7 +13,7 @@ pub(crate) fn unreadable() {
 }
 
 pub(crate) fn too_long() {
-    io::write_all(STDERR_FILENO, b"ask: more than 16,383 bytes of questions\n");
+    io::write_all(STDERR_FILENO, b"ask: more than 49,151 bytes of questions\n");
 }
 
 pub(crate) fn text(text: &[u8]) {
@@ -77,10 +77,19 @@ pub(crate) fn typed(answer: Typed) {
     }
 }
 
-// Eleven bytes in hexadecimal capitals.
-pub(crate) fn eleven(s: &[u8; 11]) {
-    for i in 0..22 {
-        let d = bits::nibble(s, i) % 16;
-        byte(48 + d + d / 10 * 7);
+fn digit(x: u8) {
+    let d = x % 16;
+    byte(48 + d + d / 10 * 7);
+}
+
+// Bytes in hexadecimal capitals.
+pub(crate) fn hexadecimal(s: &[u8]) {
+    for i in 0..s.len() {
+        digit(s[i] / 16);
+        digit(s[i]);
     }
+}
+
+pub(crate) fn eleven(s: &[u8; 11]) {
+    hexadecimal(s);
 }

@@ -1,5 +1,10 @@
--- Laws of the tests and of masks. Assumes nothing.
-pub mod TestLaws
-pub mod ListLaws
-pub mod MaskLaws
+-- Laws of the tests, of bits and of masks. Assumes nothing.
 pub mod UniqueLaws
+pub mod TestLaws
+pub mod SearchLaws
+pub mod ListLaws
+pub mod CountLaws
+pub mod XorLaws
+pub mod BitLaws
+pub mod MaskLaws
+pub mod RowLaws

@@ -1,12 +1,12 @@
 -- What the tests of a whole list say of its entries. Assumes nothing.
-use mathlib.Core.Path.{_≡_, refl, sym}
-use mathlib.Core.Bool.{Bool, true, false, _&&_, false≢true, and-assoc}
+use mathlib.Core.Path.{_≡_, refl, sym, ap, _∙_}
+use mathlib.Core.Bool.{Bool, true, false, _&&_, false≢true, and-assoc, or-true}
 use mathlib.Core.List.{List, [], _∷_, _++_}
 use Prim.Native.Nat.{ℕ, zero, suc, suc-le-suc, _<_}
 use native.Mathlib.Nat.{not-suc-le-zero, zero-lt-suc, le-of-suc-le-suc, lt-trans}
 use lib.Dec.{eqb, ltb}
 use lib.ListN.{length, getD}
-use borrow.Author.Tests.{eqb-true, ltb-true}
+use borrow.Author.Tests.{eq-eqb, eqb-true, ltb-true}
 use Rattle.bits.specs.Tests.{every, member}
 use Rattle.bits.proofs.TestLaws.{both-left, both-right, or-cases}
 
@@ -43,6 +43,25 @@ member-at v (x ∷ s) h =
     or-cases (eqb v x) (member v s) (Stands v (x ∷ s)) h
     (λ here. let same : v ≡ x = eqb-true v x here in (0, zero-lt-suc (length s), cc))
     (λ there. let rest = member-at v s there in (suc (rest .0), suc-le-suc (rest .1), rest .2))
+
+pub at-member : (s : List ℕ) (k : ℕ) → k < length s → member (getD s k 0) s ≡ true
+at-member [] k l = absurd (not-suc-le-zero l)
+at-member (x ∷ s) zero l = rw (eq-eqb x x refl)
+at-member (x ∷ s) (suc k) l = rw (at-member s k (le-of-suc-le-suc l)) (simp or-true)
+
+pub every-member : (f : ℕ → Bool) (s : List ℕ) → every f s ≡ true
+    → (x : ℕ) → member x s ≡ true → f x ≡ true
+every-member f s h x inside =
+    let at = member-at x s inside in ap f (sym (at .2)) ∙ every-at f s h (at .0) (at .1)
+
+pub every-of : (f : ℕ → Bool) (s : List ℕ) → ((x : ℕ) → member x s ≡ true → f x ≡ true)
+    → every f s ≡ true
+every-of f [] h = refl
+every-of f (x ∷ s) h =
+    rw (
+      h x (rw (eq-eqb x x refl)),
+      every-of f s (λ y inside. h y (rw inside (simp or-true))),
+    )
 
 -- f strictly rises along the list, and is above low
 module _ (f : ℕ → ℕ) where

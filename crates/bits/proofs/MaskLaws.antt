@@ -1,30 +1,23 @@
 -- A mask of rows: `x & mask == 0` says that every row that the mask marks is 0 in x. Assumes nothing.
-use mathlib.Core.Path.{_≡_, refl, sym, ap, _∙_}
+use mathlib.Core.Path.{_≡_, refl, sym, _∙_}
 use mathlib.Core.List.{List}
 use mathlib.Core.Bool.{Bool, true, false, _||_}
-use Prim.Native.Nat.{ℕ, zero, suc, _+_, _-_, _*_, _/_, _%_, _^_, _<_, min}
+use Prim.Native.Nat.{ℕ, _+_, _-_, _*_, _/_, _%_, _^_, _<_, min}
 use native.Mathlib.Nat.{zero-div}
 use native.Mathlib.Omega.{arith}
 use lib.Bits.{bitAnd, bitOr, and-mask, or-shifted, and-step, and-shr, and-le-l}
 use lib.Dec.{eqb}
-use lib.Pow.{shl-exact, shr-shr}
+use lib.Pow.{pow-pos, shl-exact}
 use borrow.Author.Tests.{eq-eqb, eqb-true, eqb-false}
-use Rattle.bits.specs.Bits.{bit, rowOf, nibble}
+use Rattle.bits.specs.Bits.{bit, has, rowOf, nibble}
 use Rattle.bits.specs.Tests.{below}
 use Rattle.bits.proofs.TestLaws.{same-test, below-at, below-of}
-
-bit-suc : (x i : ℕ) → bit x (suc i) ≡ bit (x / 2) i
-bit-suc x i =
-    let e : 1 + i ≡ suc i = omega arith in ap (λ (y : ℕ). y % 2) (sym (rw e at (shr-shr x 1 i)))
+use Rattle.bits.proofs.BitLaws.{has-of-0, same-number}
 
 -- a number whose bits are all 0 is 0
 pub zero-bits : (w x : ℕ) → x < 2 ^ w → ((i : ℕ) → i < w → bit x i ≡ 0) → x ≡ 0
-zero-bits zero x l h = omega arith
-zero-bits (suc w) x l h =
-    let shifted : (i : ℕ) → i < w → bit (x / 2) i ≡ 0 = λ i k. sym (bit-suc x i) ∙ h (suc i) (omega arith) in
-    let high : x / 2 ≡ 0 = zero-bits w (x / 2) (omega arith) shifted in
-    let low : x / 1 % 2 ≡ 0 = h 0 (omega arith) in
-    omega arith
+unfolding has
+zero-bits w x l h = same-number w x 0 l (pow-pos w) (λ i k. rw (h i k) (sym (has-of-0 i)))
 
 pub bit-and : (x y i : ℕ) → bit (bitAnd x y) i ≡ min (bit x i) (bit y i)
 bit-and x y i =

@@ -1,9 +1,12 @@
 -- What the tests of specs/Tests say, number by number. Assumes nothing.
-use mathlib.Core.Path.{_≡_, refl, sym}
+use mathlib.Core.Path.{_≡_, refl, sym, _∙_}
 use mathlib.Core.Bool.{Bool, true, false, not, _&&_, _||_, and-false, Bool·beq}
 use mathlib.Core.Logic.{⊎-elim}
 use Prim.Native.Nat.{ℕ, zero, suc, _<_}
 use native.Mathlib.Nat.{not-suc-le-zero, le-suc-iff, suc-inj, lt-suc-self, le-step}
+use native.Mathlib.Omega.{arith}
+use lib.Dec.{eqb, ltb}
+use borrow.Author.Tests.{eqb-false, ltb-true, lt-ltb}
 use Rattle.bits.specs.Tests.{below}
 
 pub both-left : (a b : Bool) → a && b ≡ true → a ≡ true
@@ -22,6 +25,10 @@ pub or-cases : (a b : Bool) (P : Type 0) → a || b ≡ true → (a ≡ true →
 or-cases true b P h left right = left refl
 or-cases false b P h left right = right h
 
+pub either-false : (a b : Bool) → a || b ≡ false → (a ≡ false) × (b ≡ false)
+either-false true b e = (e, cc)
+either-false false b e = (refl, e)
+
 -- a comparison that came out true
 pub same-bool : (a b : Bool) → Bool·beq a b ≡ true → a ≡ b
 same-bool true true e = refl
@@ -34,6 +41,34 @@ pub same-test : (a b : Bool) → (a ≡ true → b ≡ true) → (b ≡ true →
 same-test true b f g = sym (f refl)
 same-test false true f g = g refl
 same-test false false f g = refl
+
+-- a test that only counts where the first holds
+pub and-ext : (a x y : Bool) → (a ≡ true → x ≡ y) → a && x ≡ a && y
+and-ext true x y e = e refl
+and-ext false x y e = refl
+
+pub or-absorb : (a b : Bool) → a || (b && a) ≡ a
+or-absorb true b = refl
+or-absorb false b = and-false b
+
+pub implied-not : (a b : Bool) → not a || b ≡ true → b ≡ false → a ≡ false
+implied-not true b h e = sym h ∙ e
+implied-not false b h e = refl
+
+-- a function of a bit that a turn of the bit leaves as it is, is constant
+pub unturned : (g : Bool → Bool) (x : Bool) → g (not x) ≡ g x → (u v : Bool) → g u ≡ g v
+unturned g x e true true = refl
+unturned g true e true false = sym e
+unturned g false e true false = e
+unturned g true e false true = e
+unturned g false e false true = sym e
+unturned g x e false false = refl
+
+pub ltb-suc : (v k : ℕ) → eqb k v ≡ false → ltb v (suc k) ≡ ltb v k
+ltb-suc v k other =
+    let apart = eqb-false k v other in
+    same-test _ _ (λ e. let l = ltb-true v (suc k) e in lt-ltb v k (omega arith))
+    (λ e. let l = ltb-true v k e in lt-ltb v (suc k) (omega arith))
 
 pub below-at : (f : ℕ → Bool) (n : ℕ) → below f n ≡ true → (k : ℕ) → k < n → f k ≡ true
 below-at f zero t k h = absurd (not-suc-le-zero h)

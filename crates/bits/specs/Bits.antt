@@ -1,11 +1,32 @@
 -- Bits of a number; rows and fields, most significant first. Assumes nothing.
 use Prim.Native.Nat.{ℕ, zero, suc, _+_, _-_, _*_, _/_, _%_, _^_}
+use mathlib.Core.Bool.{Bool, true, false}
 use mathlib.Core.List.{List, [], _∷_}
+use lib.Dec.{eqb}
 use lib.ListN.{getD}
 
 -- bit i of x, the units bit being bit 0
 abbrev pub bit : (x i : ℕ) → ℕ
 bit x i = x / 2 ^ i % 2
+
+-- bit i of x is 1
+unfoldable pub has : (x i : ℕ) → Bool
+has x i = eqb (bit x i) 1
+
+-- a bit as a number
+abbrev pub num : Bool → ℕ
+num true = 1
+num false = 0
+
+-- the number below 2 ^ n with the bits g
+unfoldable pub ofBits : (n : ℕ) (g : ℕ → Bool) → ℕ
+ofBits zero g = 0
+ofBits (suc n) g = ofBits n (λ i. g (suc i)) * 2 + num (g 0)
+
+-- the number of w rows, row 0 in the most significant bit
+unfoldable pub ofRows : (w : ℕ) (g : ℕ → Bool) → ℕ
+ofRows zero g = 0
+ofRows (suc w) g = num (g 0) * 2 ^ w + ofRows w (λ k. g (suc k))
 
 -- row k of w rows held in one number, row 0 in the most significant bit
 abbrev pub rowOf : (w x k : ℕ) → ℕ

@@ -1,6 +1,6 @@
 -- Tests that compute. Assumes nothing.
 use Prim.Native.Nat.{ℕ, zero, suc, _+_}
-use mathlib.Core.Bool.{Bool, true, false, _&&_, _||_}
+use mathlib.Core.Bool.{Bool, true, false, not, _&&_, _||_}
 use mathlib.Core.List.{List, [], _∷_}
 use lib.Dec.{eqb}
 
@@ -9,10 +9,26 @@ abbrev pub pick : {A : Type 0} → Bool → A → A → A
 pick true a b = a
 pick false a b = b
 
+infixl 40 _⊕_
+-- one of the two and not the other
+abbrev pub _⊕_ : Bool → Bool → Bool
+true ⊕ b = not b
+false ⊕ b = b
+
 -- f holds of every number below n
 abbrev pub below : (ℕ → Bool) → ℕ → Bool
 below f zero = true
 below f (suc n) = f n && below f n
+
+-- f holds of some number below n
+unfoldable pub some : (ℕ → Bool) → ℕ → Bool
+some f zero = false
+some f (suc n) = f n || some f n
+
+-- the first number below n that f holds of, or n
+unfoldable pub first : (ℕ → Bool) → ℕ → ℕ
+first f zero = zero
+first f (suc n) = pick (f 0) 0 (suc (first (λ i. f (suc i)) n))
 
 -- how many numbers below n f holds of
 abbrev pub count : (ℕ → Bool) → ℕ → ℕ

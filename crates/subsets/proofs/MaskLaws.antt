@@ -6,6 +6,7 @@ use Prim.Native.Nat.{ℕ}
 use lib.Dec.{eqb, leb, ltb}
 use lib.ListN.{length, getD}
 use borrow.Author.Tests.{eqb-true, leb-true, ltb-true, le-leb}
+use Rattle.bits.specs.Bits.{has}
 use Rattle.bits.specs.Tests.{below, every, member}
 use Rattle.subsets.specs.Masks.{variablesFrom, variablesIn, pinsOfMask, keyOf, Small, Rule, masks}
 use Rattle.bits.proofs.TestLaws.{both-left, both-right, implied, below-at}
@@ -51,7 +52,7 @@ module _ (t : List ℕ) (h : rule t ≡ true) where
       }
 
 masks-computed : rule masks ≡ true
-unfolding masks variablesFrom variablesIn pinsOfMask keyOf
+unfolding masks has variablesFrom variablesIn pinsOfMask keyOf
 masks-computed = refl
 
 pub masks-rule : Rule masks

@@ -8,12 +8,13 @@ use native.Mathlib.Omega.{arith}
 use lib.Dec.{eqb}
 use lib.ListN.{length, getD}
 use borrow.Author.Tests.{eqb-true, le-leb}
+use Rattle.bits.specs.Bits.{has}
 use Rattle.bits.specs.Tests.{below, every, pick}
 use Rattle.block.specs.Block.{isOpen}
 use Rattle.block.specs.Table.{mostInputs}
 use Rattle.block.specs.Tidy.{fieldFits, ordered}
 use Rattle.block.specs.Kind.{carries}
-use Rattle.subsets.specs.Masks.{has, variablesFrom, variablesIn, pinsOfMask, Small, TidyChoice}
+use Rattle.subsets.specs.Masks.{variablesFrom, variablesIn, pinsOfMask, Small, TidyChoice}
 use Rattle.subsets.specs.Masks.{masks}
 use Rattle.block.proofs.TidyLaws.{fits-lt}
 use Rattle.bits.proofs.TestLaws.{same-bool, both-left, both-right, implied, below-at}
@@ -45,7 +46,7 @@ abbrev foundA : ℕ → Bool
 foundA a = below (foundAB a) 16
 
 all-found : below foundA 16 ≡ true
-unfolding variablesFrom variablesIn pinsOfMask ordered
+unfolding has variablesFrom variablesIn pinsOfMask ordered
 all-found = refl
 
 module _ (a b c d : ℕ) (fields : every (fieldFits mostInputs) (a ∷ b ∷ c ∷ d ∷ []) ≡ true) where
@@ -103,7 +104,7 @@ abbrev rightIfSmall : ℕ → Bool
 rightIfSmall m = not (atMostFour m) || maskRight m
 
 all-right : below rightIfSmall 512 ≡ true
-unfolding variablesFrom variablesIn pinsOfMask ordered carries
+unfolding has variablesFrom variablesIn pinsOfMask ordered carries
 all-right = refl
 
 module _ (m : ℕ) (small-m : Small m) where

@@ -5,17 +5,12 @@ use Prim.Native.Nat.{ℕ, zero, suc, _<_, _≤_, _^_}
 use mathlib.Core.Path.{_≡_}
 use mathlib.Core.Bool.{Bool, true, false}
 use mathlib.Core.List.{List, [], _∷_, _++_}
-use lib.Dec.{eqb}
 use lib.ListN.{length, getD, take, replicate}
-use Rattle.bits.specs.Bits.{bit, joined}
+use Rattle.bits.specs.Bits.{has, joined}
 use Rattle.bits.specs.Tests.{every}
 use Rattle.block.specs.Block.{openField}
 use Rattle.block.specs.Table.{mostInputs}
 use Rattle.block.specs.Tidy.{fieldFits, ordered}
-
--- variable v is in the mask m
-abbrev pub has : ℕ → ℕ → Bool
-has m v = eqb (bit m v) 1
 
 -- v before the others if the test holds
 abbrev pub consIf : Bool → ℕ → List ℕ → List ℕ

@@ -9,6 +9,7 @@ use lib.Dec.{eqb, ltb}
 use lib.ListN.{length, getD}
 use borrow.Author.Tests.{eqb-true, ltb-true}
 use Rattle.bits.specs.Tests.{below}
+use Rattle.bits.specs.Bits.{has}
 use Rattle.block.specs.Block.{openField, isOpen}
 use Rattle.block.specs.Table.{mostInputs}
 use Rattle.block.specs.Tidy.{fieldFits}
@@ -100,7 +101,7 @@ abbrev reachesAt : ℕ → Bool
 reachesAt k = reaches (typeRowAt k) 0 (exampleAt k .g-set) (exampleAt k .direct)
 
 all-reached : below reachesAt 13 ≡ true
-unfolding thirteen wired letterOf digitOf variablesOf carries masks variablesFrom variablesIn pinsOfMask
+unfolding thirteen wired letterOf digitOf variablesOf carries masks has variablesFrom variablesIn pinsOfMask
 all-reached = refl
 
 reached : (k : ℕ) → k < 13 → Reached (typeRowAt k)
@@ -109,7 +110,7 @@ reached k l =
     reaches→Reached (typeRowAt k) 0 (e .g-set) (e .direct) (below-at reachesAt 13 all-reached k l)
 
 f-bridged : Bridged true false
-unfolding wired letterOf carries masks variablesFrom variablesIn pinsOfMask
+unfolding wired letterOf carries masks has variablesFrom variablesIn pinsOfMask
 f-bridged =
     record {
       i = 0;
@@ -122,7 +123,7 @@ f-bridged =
     }
 
 g-bridged : Bridged false true
-unfolding wired letterOf carries masks variablesFrom variablesIn pinsOfMask
+unfolding wired letterOf carries masks has variablesFrom variablesIn pinsOfMask
 g-bridged =
     record {
       i = 225;

@@ -9,6 +9,7 @@ use Prim.Native.Nat.{ℕ, zero, suc, _+_, _-_, _<_}
 use native.Mathlib.Nat.{not-suc-le-zero, le-of-suc-le-suc}
 use lib.Dec.{eqb}
 use lib.ListN.{length, getD}
+use Rattle.bits.specs.Bits.{has}
 use Rattle.block.specs.declared.Letter.the-variants.{A, B, C}
 use Rattle.block.specs.Table.{mostInputs}
 use Rattle.block.specs.Kind.{carries}
@@ -61,7 +62,7 @@ abbrev withinAll : List Bool → Bool
 withinAll s = everySet (pairWithin s) sets
 
 all-within : everySet withinAll sets ≡ true
-unfolding carries masks variablesFrom variablesIn pinsOfMask
+unfolding carries masks has variablesFrom variablesIn pinsOfMask
 all-within = refl
 
 set-at : (p : List Bool → Bool) (ms : List ℕ) → everySet p (map setOf ms) ≡ true

@@ -1,0 +1,13 @@
+-- The laws of contents. Assumes nothing.
+pub mod MaskLaws
+pub mod TurnLaws
+pub mod ChoiceLaws
+pub mod FillLaws
+pub mod MinimumLaws
+pub mod GatherLaws
+pub mod PoleLaws
+pub mod WeighLaws
+pub mod SideLaws
+pub mod SeenLaws
+pub mod StandLaws
+pub mod LeastLaws

@@ -1,0 +1,20 @@
+-- `contents::slot` meets its contract. Assumes nothing.
+use native.Mathlib.Omega.{arith}
+use borrow.Author.Needs.{needs}
+use Rattle.contents.specs.Code.{slotBy}
+use Rattle.contents.proofs.slot.Statement.{statement}
+use Rattle.contents.proofs.slot.Tie as tie
+
+returns : tie.Need-returns
+unfolding slotBy
+returns c =
+    let in-f = c .before .before .changed .ensures in
+    let in-g = c .before .changed2 .ensures in
+    let direct = c .reads .ensures in
+    (rw (in-f .0, in-g .0, direct .0), omega (arith, in-f .1, in-g .1, direct .1))
+
+pub slot-spec : {M : Type 1} → statement M
+slot-spec =
+    tie.close
+    (tie.spec (search needs) (search needs) (search needs) (search needs) (search needs)
+    (search needs) (search needs) returns)

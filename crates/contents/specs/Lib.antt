@@ -1,0 +1,3 @@
+-- The contents of a wiring. Assumes nothing.
+pub mod Contents
+pub mod Code

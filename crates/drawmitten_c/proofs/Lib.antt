@@ -1,0 +1,2 @@
+-- The laws of the C boundary. Assumes nothing.
+pub mod BoundaryLaws

@@ -1,0 +1,2 @@
+-- What a C program is answered. Assumes nothing.
+pub mod Boundary

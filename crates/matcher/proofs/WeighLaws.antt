@@ -1,0 +1,164 @@
+-- A wiring that does not fit has no contents, and one without contents does not fit. The tests that
+-- only reject. Assumes nothing.
+use mathlib.Core.Path.{_≡_, refl, sym, ap, ap₂, _∙_}
+use mathlib.Core.Bool.{Bool, true, false, _&&_, _||_, or-assoc}
+use mathlib.Core.List.{List, [], _∷_}
+use Prim.Native.Nat.{ℕ, _+_, _*_, _/_, _%_, _^_, _<_, _≤_, min}
+use native.Mathlib.Omega.{arith}
+use native.Mathlib.Nat.{min-eq-left}
+use lib.Dec.{eqb, ltb}
+use lib.Bits.{bitAnd, bitOr, and-le-l}
+use lib.ListN.{length}
+use lib.Pow.{pow-mono}
+use borrow.Author.Tests.{eqb-true, eq-eqb, ltb-true, ltb-false}
+use Rattle.bits.specs.Bits.{has, ofBits}
+use Rattle.bits.specs.Tests.{pick}
+use Rattle.bits.proofs.TestLaws.{or-cases}
+use Rattle.bits.proofs.SearchLaws.{byBool, clash}
+use Rattle.bits.proofs.BitLaws.{has-and, has-or, has-pow, has-high, has-of-0, has-ofBits, ofBits-lt, same-number}
+use Rattle.block.specs.Tidy.{fieldFits, rowsQuiet}
+use Rattle.block.specs.Value.{Computes}
+use Rattle.block.specs.Kind.{carries}
+use Rattle.subsets.specs.Masks.{pinsOfMask}
+use Rattle.subsets.proofs.PinLaws.{pins-tidy, carries-mask}
+use Rattle.wiring.specs.Wire.{Wired, blockOn}
+use Rattle.wiring.specs.Fits.{Fits, dependsOn}
+use Rattle.wiring.proofs.FitsLaws.{fits-of-block, fits-ext, fits-covers}
+use Rattle.wiring.proofs.FillLaws.{Filled, block-of-fits, filled-quiet}
+use Rattle.filter.specs.Support.{supportOf}
+use Rattle.contents.specs.Contents.{isChoice, isWiring, wiringOf, blockWith, noContents, Fills, LeastFilling}
+use Rattle.matcher.specs.Search.{directOf, directSet, directs, Uncovered}
+use Rattle.matcher.proofs.NumberLaws.{tablesNumber}
+use Rattle.matcher.proofs.ChoiceLaws.{choice-small, choice-fits, Pieces, pieces}
+use Rattle.matcher.proofs.FirstLaws.{block-fields}
+use Rattle.matcher.proofs.PlaceLaws.{direct-fits}
+
+module _ (n : ℕ) (t : List ℕ) (f g d : ℕ) (w : isWiring n f g d ≡ true) where
+  same-f : (v : ℕ) → v < n → carries (pinsOfMask f) v ≡ has f v
+  same-f v l =
+      let p = pieces n f g d w in
+      carries-mask f (choice-small n f (p .within) (p .f-choice)) v (omega (arith, p .within))
+
+  same-g : (v : ℕ) → v < n → carries (pinsOfMask g) v ≡ has g v
+  same-g v l =
+      let p = pieces n f g d w in
+      carries-mask g (choice-small n g (p .within) (p .g-choice)) v (omega (arith, p .within))
+
+  -- without a fit there are no contents
+  pub rejected : (Fits n t (has f) (has g) d → ⊥) → LeastFilling n t f g d noContents
+  rejected never =
+      record {
+        most = omega arith;
+        fills = λ l. absurd (omega arith);
+        least =
+            λ y fills.
+            absurd
+            (never
+            (fits-ext n t (carries (pinsOfMask f)) (carries (pinsOfMask g)) (has f) (has g) d same-f same-g
+            (fits-of-block n t (blockWith f g d y) (block-fields n f g d w y) (fills .computes))));
+      }
+
+  wired : Wired n (wiringOf f g d)
+  wired =
+      let p = pieces n f g d w in
+      record {
+        within = p .within;
+        f-four = pins-tidy f (choice-small n f (p .within) (p .f-choice)) .four;
+        g-four = pins-tidy g (choice-small n g (p .within) (p .g-choice)) .four;
+        f-fit = choice-fits n f (p .within) (p .f-choice);
+        g-fit = choice-fits n g (p .within) (p .g-choice);
+        direct-fits = p .direct;
+      }
+
+  -- without contents there is no fit
+  pub never-fits : (x : ℕ) → LeastFilling n t f g d x → noContents ≤ x → Fits n t (has f) (has g) d → ⊥
+  never-fits x least l fits =
+      let sees =
+      fits-ext n t (has f) (has g) (carries (pinsOfMask f)) (carries (pinsOfMask g)) d
+      (λ v m. sym (same-f v m)) (λ v m. sym (same-g v m)) fits in
+      let made = block-of-fits n t (wiringOf f g d) wired sees in
+      let y = tablesNumber (made .f) (made .g) (made .h) in
+      let lf = made .f-lt in
+      let lg = made .g-lt in
+      let lh = made .h-lt in
+      let small : y < noContents = omega arith in
+      let rows-f : y / 2 ^ 24 ≡ made .f = omega arith in
+      let rows-g : y / 2 ^ 8 % 2 ^ 16 ≡ made .g = omega arith in
+      let rows-h : y % 2 ^ 8 ≡ made .h = omega arith in
+      let same : blockWith f g d y ≡ blockOn (wiringOf f g d) (made .f) (made .g) (made .h) =
+      rw (rows-f, rows-g, rows-h) in
+      let most =
+      least .least y
+      (record {
+        small = small;
+        quiet = ap rowsQuiet same ∙ filled-quiet n t (wiringOf f g d) wired made;
+        computes = rw same (made .computes);
+      }) in
+      omega arith
+
+-- the variables that the table depends on
+module _ (n : ℕ) (t : List ℕ) (within : n ≤ 9) where
+  unfolded : supportOf n t ≡ ofBits n (dependsOn n t)
+  unfolding supportOf
+  unfolded = rw (min-eq-left within)
+
+  pub support-has : (v : ℕ) → v < n → has (supportOf n t) v ≡ dependsOn n t v
+  support-has v l = rw unfolded (has-ofBits n (dependsOn n t) v l)
+
+  pub support-lt : supportOf n t < 2 ^ n
+  support-lt = rw unfolded (ofBits-lt n (dependsOn n t))
+
+  pub support-on : (v : ℕ) → has (supportOf n t) v ≡ true → (v < n) × (dependsOn n t v ≡ true)
+  support-on v h =
+      byBool (ltb v n)
+      (λ e. (ltb-true v n e, sym (support-has v (ltb-true v n e)) ∙ h))
+      (λ e. clash h (has-high n (supportOf n t) v support-lt (ltb-false v n e)))
+
+  -- two variables that neither set has: no choice of the direct pin covers both
+  pub never-covered : (f g k : ℕ) → k < directs n → Uncovered (supportOf n t) f g
+      → Fits n t (has f) (has g) (directOf n k) → ⊥
+  never-covered f g k l missing fits =
+      let u = missing (directOf n k) in
+      let on = support-on (u .0) (u .2) in
+      let told = fits-covers n t (has f) (has g) (directOf n k) fits (direct-fits n k l) (u .0) (on .1) in
+      u .1 (eqb-true (u .0) (directOf n k) (rw (u .3, u .4) at told))
+
+  pub direct-has : (k v : ℕ) → v < n → has (directSet n k) v ≡ eqb v (directOf n k)
+  direct-has k v l =
+      byBool (eqb n 0) (λ z. absurd (omega (arith, eqb-true n 0 z))) (λ z. rw z (has-pow k v))
+
+  pub cover-has : (f g k v : ℕ) → v < n
+      → has (bitOr (bitOr f g) (directSet n k)) v ≡ ((has f v || has g v) || eqb v (directOf n k))
+  cover-has f g k v l =
+      has-or (bitOr f g) (directSet n k) v ∙ ap₂ _||_ (has-or f g v) (direct-has k v l)
+
+  -- a variable that the table depends on, and that no pin carries
+  pub never-missed : (f g k : ℕ) → k < directs n
+      → (bitAnd (supportOf n t) (bitOr (bitOr f g) (directSet n k)) ≡ supportOf n t → ⊥)
+      → Fits n t (has f) (has g) (directOf n k) → ⊥
+  never-missed f g k l missed fits =
+      missed
+      (same-number 9 (bitAnd s cover) s (omega (arith, and-le-l s cover, nine)) nine
+      (λ v m.
+      has-and s cover v
+      ∙ byBool (has s v)
+      (λ e. let on = support-on v e in rw (e, cover-has f g k v (on .0), covered v (on .1))) (λ e. rw e)))
+    where
+      s : ℕ
+      s = supportOf n t
+
+      cover : ℕ
+      cover = bitOr (bitOr f g) (directSet n k)
+
+      nine : s < 2 ^ 9
+      nine = omega (arith, support-lt, pow-mono {i = n} {j = 9} within)
+
+      covered : (v : ℕ) → dependsOn n t v ≡ true → ((has f v || has g v) || eqb v (directOf n k)) ≡ true
+      covered v on =
+          or-assoc (has f v) (has g v) (eqb v (directOf n k))
+          ∙ fits-covers n t (has f) (has g) (directOf n k) fits (direct-fits n k l) v on
+
+  -- what G and the direct pin carry, as one set
+  pub other-has : (g k : ℕ) → (v : ℕ) → v < n
+      → has (bitOr g (directSet n k)) v ≡ (has g v || eqb v (directOf n k))
+  other-has g k v l = has-or g (directSet n k) v ∙ ap (λ (b : Bool). has g v || b) (direct-has k v l)

@@ -1,0 +1,77 @@
+-- `matcher::weigh` meets its contract. Assumes nothing.
+use mathlib.Core.Path.{_≡_, sym, ap, _∙_}
+use mathlib.Core.Bool.{Bool, false}
+use Prim.Native.Nat.{ℕ, _<_}
+use native.Mathlib.Omega.{arith}
+use borrow.Author.Needs.{needs}
+use borrow.Author.Tests.{not-true}
+use Rattle.matcher.specs.Search.{Weighable}
+use Rattle.matcher.proofs.PlaceLaws.{directs-most}
+use Rattle.matcher.proofs.TrialLaws.{rejects-missed, rejects-f, rejects-g, weighs}
+use Rattle.matcher.proofs.weigh.Statement.{statement}
+use Rattle.matcher.proofs.weigh.Tie as tie
+
+direct-set-requires : tie.Need-direct-set-requires
+direct-set-requires c κs =
+    let given = c .before .pre in
+    omega (arith, given .choice, directs-most (c .before .args .n) (given .inputs))
+
+returns : tie.Need-returns
+returns c =
+    let start = c .before .before .before in
+    let a = start .args in
+    rejects-missed (a .n) (a .t .now) (a .within) (a .words .now) (a .f) (a .g) (a .k) (start .pre)
+    (λ e. c .if1 .taken (rw (c .before .direct-set .ensures) e))
+
+returns-2 : tie.Need-returns-2
+returns-2 c =
+    let start = c .before .before .before .before .before .before .before in
+    let a = start .args in
+    let called = c .before .before .before in
+    rejects-f (a .n) (a .t .now) (a .within) (a .words .now) (a .f) (a .g) (a .k) (start .pre)
+    (called .before .before .direct-set .result) (called .key-of .result)
+    (c .before .before .select .result) (c .before .two .result)
+    (called .before .before .direct-set .ensures) (called .key-of .ensures)
+    (c .before .before .select .ensures .0) (c .before .two .ensures)
+    (not-true (c .before .two .result) (c .if2 .taken))
+
+returns-3 : tie.Need-returns-3
+returns-3 c =
+    let passed = c .before .before .before .before .before .before in
+    let start = passed .before .before .before .before .before .before .before in
+    let a = start .args in
+    let called = c .before .before .before in
+    let direct = passed .before .before .before .before .before .direct-set in
+    rejects-g (a .n) (a .t .now) (a .within) (a .words .now) (a .f) (a .g) (a .k) (start .pre)
+    (direct .result) (called .key-of2 .result) (c .before .before .select2 .result)
+    (called .before .before .words .result) (c .before .two2 .result) (direct .ensures)
+    (called .before .before .words .ensures) (called .key-of2 .ensures)
+    (c .before .before .select2 .ensures .0) (c .before .two2 .ensures)
+    (not-true (c .before .two2 .result) (c .if3 .taken))
+
+returns-4 : tie.Need-returns-4
+returns-4 c =
+    let passed = c .before .before .before .before .before .before .before .before in
+    let start = passed .before .before .before .before .before .before .before in
+    let a = start .args in
+    weighs (a .n) (a .t .now) (a .within) (a .words .now) (a .f) (a .g) (a .k) (start .pre) (c .least .result)
+    (rw (← c .before .direct-of .ensures) (c .least .ensures))
+
+pub weigh-spec : {M : Type 1} → statement M
+weigh-spec =
+    tie.close
+    (tie.spec
+    direct-set-requires
+    returns
+    (search needs)
+    (search needs)
+    (search needs)
+    returns-2
+    (search needs)
+    (search needs)
+    (search needs)
+    (search needs)
+    returns-3
+    (search needs)
+    (search needs)
+    returns-4)

@@ -1,0 +1,3 @@
+-- Which match is returned, and what the matcher promises. Assumes nothing.
+pub mod Match
+pub mod Search

@@ -1,0 +1,3 @@
+-- The laws of rows. Assumes nothing.
+pub mod SeenLaws
+pub mod KeyLaws

@@ -1,0 +1,71 @@
+-- What pins see of a row, and the row that shows a table row to them, as the code adds them up.
+-- Assumes nothing.
+use mathlib.Core.Path.{_≡_, refl, sym, ap, ap₂, _∙_}
+use mathlib.Core.Bool.{Bool, true, false, _&&_, _||_, or-false}
+use mathlib.Core.List.{List, [], _∷_}
+use Prim.Native.Nat.{ℕ, _+_, _*_, _/_, _%_, _^_, _<_}
+use native.Mathlib.Nat.{div-eq-of-lt}
+use native.Mathlib.Omega.{arith}
+use lib.Dec.{eqb}
+use lib.Bits.{bitOr}
+use borrow.Author.Tests.{eqb-true, eqb-false}
+use Rattle.bits.specs.Bits.{bit, has, num, ofBits}
+use Rattle.bits.specs.Tests.{pick}
+use Rattle.bits.proofs.SearchLaws.{byBool}
+use Rattle.bits.proofs.BitLaws.{num-has, bit-low, has-low, has-or, has-moved, has-ofBits, ofBits-lt, same-number}
+use Rattle.block.specs.Value.{openLevel, pinValue, selected}
+use Rattle.wiring.specs.Wire.{shows, shown}
+
+-- with the level of an open pin in bit 15 of the row, an open pin reads like any other
+pub reads-bit : (pin r : ℕ) → pin < 16 → (r % 2 ^ 15 + openLevel * 32768) / 2 ^ pin % 2 ≡ pinValue pin r
+unfolding pinValue
+reads-bit pin r l =
+    byBool (eqb pin 15)
+    (λ e. let same = eqb-true pin 15 e in rw (e, same) (omega arith))
+    (λ e.
+    let other = eqb-false pin 15 e in
+    rw e (ap (λ (x : ℕ). bit x pin) zero-level ∙ bit-low 15 r pin (omega arith)))
+  where
+    zero-level : r % 2 ^ 15 + openLevel * 32768 ≡ r % 2 ^ 15
+    zero-level = omega arith
+
+pub selects : (a b c d r : ℕ)
+    → 8 * pinValue a r + 4 * pinValue b r + 2 * pinValue c r + pinValue d r
+    ≡ selected (a ∷ b ∷ c ∷ d ∷ []) r
+unfolding selected
+selects a b c d r = omega arith
+
+module _ (a b c d x : ℕ) where
+  abbrev raised : ℕ
+  raised =
+      bitOr (bitOr (num (has x 3) * 2 ^ a) (num (has x 2) * 2 ^ b))
+      (bitOr (num (has x 1) * 2 ^ c) (num (has x 0) * 2 ^ d))
+
+  abbrev moved : ℕ → ℕ → ℕ → Bool
+  moved pin k v = eqb v pin && has x k
+
+  raised-bit : (v : ℕ) → has raised v ≡ ((moved a 3 v || moved b 2 v) || (moved c 1 v || moved d 0 v))
+  raised-bit v =
+      has-or (bitOr (num (has x 3) * 2 ^ a) (num (has x 2) * 2 ^ b)) (bitOr (num (has x 1) * 2 ^ c) (num (has x 0) * 2 ^ d)) v
+      ∙ ap₂ _||_
+      (has-or (num (has x 3) * 2 ^ a) (num (has x 2) * 2 ^ b) v
+      ∙ ap₂ _||_ (has-moved (has x 3) a v) (has-moved (has x 2) b v))
+      (has-or (num (has x 1) * 2 ^ c) (num (has x 0) * 2 ^ d) v
+      ∙ ap₂ _||_ (has-moved (has x 1) c v) (has-moved (has x 0) d v))
+
+  or-four : (p q r s : Bool) → ((p || q) || (r || s)) ≡ (p || (q || (r || (s || false))))
+  or-four true q r s = refl
+  or-four false true r s = refl
+  or-four false false true s = refl
+  or-four false false false s = sym (or-false s)
+
+  pub shows-row : raised % 512 ≡ shown 9 (a ∷ b ∷ c ∷ d ∷ []) x
+  unfolding shown shows
+  shows-row =
+      same-number 9 (raised % 512) (ofBits 9 (shows (a ∷ b ∷ c ∷ d ∷ []) x)) (omega arith)
+      (ofBits-lt 9 (shows (a ∷ b ∷ c ∷ d ∷ []) x))
+      (λ v l.
+      has-low 9 raised v l
+      ∙ raised-bit v
+      ∙ or-four (moved a 3 v) (moved b 2 v) (moved c 1 v) (moved d 0 v)
+      ∙ sym (has-ofBits 9 (shows (a ∷ b ∷ c ∷ d ∷ []) x) v l))

@@ -1,0 +1,26 @@
+-- The laws of wirings: what pins see of a row, what fits a wiring, and the test of one wiring.
+-- Assumes nothing.
+pub mod OnlyLaws
+pub mod ReadLaws
+pub mod SelectLaws
+pub mod ShownLaws
+pub mod QuietLaws
+pub mod BlockLaws
+pub mod DependLaws
+pub mod FitsLaws
+pub mod FillLaws
+pub mod MuxLaws
+pub mod FiveLaws
+pub mod OwnLaws
+pub mod ComponentLaws
+pub mod ChangeLaws
+pub mod TableLaws
+pub mod PolarityLaws
+pub mod OrderLaws
+pub mod PoleLaws
+pub mod ServeLaws
+pub mod AskedLaws
+pub mod ChoiceLaws
+pub mod LeastLaws
+pub mod TurnLaws
+pub mod TestLaws

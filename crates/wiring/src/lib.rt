@@ -1,0 +1,1 @@
+// What a wiring can hold: laws, no code.
