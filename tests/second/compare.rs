@@ -75,6 +75,14 @@ fn vector_file(judge: &mut Judge, path: &str) {
     }
 }
 
+/// One in sixteen of the tables of four inputs.
+fn four_inputs(judge: &mut Judge, first: u64) {
+    for number in (first..65536).step_by(16) {
+        let table = (number as u16).to_be_bytes();
+        judge.function(4, &table, Known::Nothing);
+    }
+}
+
 /// Functions of one kind, of every n.
 fn of_kind(judge: &mut Judge, make: Maker, random: &mut Random) {
     for n in 0..=9 {
@@ -112,6 +120,9 @@ fn main() {
             vector_file(judge, &format!("{folder}/{file}"))
         });
     }
+    judge.group("one in sixteen of 4 inputs", |judge| {
+        four_inputs(judge, seed % 16)
+    });
     let mut random = Random(seed);
     for (name, make) in KINDS {
         judge.group(name, |judge| of_kind(judge, make, &mut random));

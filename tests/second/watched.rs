@@ -2,8 +2,11 @@
 
 use crate::product::{drawmitten_match, MATCHED};
 
-/// What stands in every byte of the lent buffer and around it before a call.
-const BEFORE: u8 = 0xA5;
+/// What stands in every byte of the lent buffer and around it before a call: of two rooms in turn
+/// each bit is once 0 and once 1.
+fn before(room: usize) -> u8 {
+    [0xA5, 0x5A][room % 2]
+}
 
 /// Bytes watched before the lent buffer and after it.
 const AROUND: usize = 16;
@@ -18,7 +21,7 @@ pub struct Left {
 
 /// The answer 0 with nothing changed.
 fn untouched(table: &[u8], room: usize) -> Left {
-    let area = vec![BEFORE; AROUND + room + AROUND];
+    let area = vec![before(room); AROUND + room + AROUND];
     Left {
         answer: 0,
         area,

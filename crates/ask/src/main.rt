@@ -1,4 +1,4 @@
-// Answers questions about blocks: one a line on standard input, one line of answer each (README, "Asking").
+// Answers questions about tables and blocks: one a line on standard input, one line of answer each (README, "Asking").
 mod answer;
 mod input;
 mod say;

@@ -7,6 +7,7 @@ use native.Mathlib.Omega.{arith}
 use borrow.Author.Tests.{eq-eqb, ne-eqb, eqb-true, eqb-false}
 use lib.Dec.{eqb, eqb·suc-zero, eqb·zero-suc, eqb·suc-suc}
 use lib.Bits.{bitAnd, bitOr, and-step, or-step, and-shr, or-shr}
+use mir.Val.{boolByte}
 use lib.Pow.{shr-shr, pow-mono, field, mod-mod-pow}
 use Rattle.bits.specs.Bits.{bit, has, num, ofBits}
 use Rattle.bits.proofs.SearchLaws.{byBool, clash}
@@ -34,6 +35,10 @@ half-num x false = omega arith
 pub num-le : (v : Bool) → num v ≤ 1
 num-le true = omega arith
 num-le false = omega arith
+
+pub byte-num : (b : Bool) → boolByte b ≡ num b
+byte-num true = refl
+byte-num false = refl
 
 pub num-injective : (x y : Bool) → num x ≡ num y → x ≡ y
 num-injective true true e = refl

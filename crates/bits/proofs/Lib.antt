@@ -6,5 +6,8 @@ pub mod ListLaws
 pub mod CountLaws
 pub mod XorLaws
 pub mod BitLaws
+pub mod OneBitLaws
+pub mod SetLaws
 pub mod MaskLaws
+pub mod FieldLaws
 pub mod RowLaws

@@ -106,3 +106,19 @@ rowOf-num w T x = sym (num-has T (w - 1 - x))
 
 pub rowOf-ofRows : (w : ℕ) (A : ℕ → Bool) (x : ℕ) → x < w → rowOf w (ofRows w A) x ≡ num (A x)
 rowOf-ofRows w A x l = rowOf-num w (ofRows w A) x ∙ ap num (isRow-ofRows w A x l)
+
+more-rows : (w : ℕ) (g : ℕ → Bool) → ofRows (suc w) g ≡ ofRows w g * 2 + num (g w)
+unfolding ofRows
+more-rows zero g = omega arith
+more-rows (suc w) g =
+    let rest = more-rows w (λ k. g (suc k)) in
+    let double : num (g 0) * 2 ^ suc w ≡ num (g 0) * 2 ^ w * 2 = go (g 0) in
+    omega arith
+  where
+    go : (b : Bool) → num b * 2 ^ suc w ≡ num b * 2 ^ w * 2
+    go true = omega arith
+    go false = omega arith
+
+-- rows taken in one by one, from row 0 on
+pub ofRows-more : (w : ℕ) (g : ℕ → Bool) → ofRows w g * 2 + num (g w) ≡ ofRows (w + 1) g
+ofRows-more w g = rw (add-one w) (sym (more-rows w g))

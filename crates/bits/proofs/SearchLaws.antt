@@ -1,9 +1,10 @@
 -- Some number, the first number, of which a test holds; and the two cases of a test. Assumes nothing.
 use mathlib.Core.Path.{_≡_, refl, ap, _∙_}
-use mathlib.Core.Bool.{Bool, true, false, _&&_, and-false}
+use mathlib.Core.Bool.{Bool, true, false, _&&_, _||_, and-false}
 use mathlib.Core.Logic.{⊎-elim}
-use Prim.Native.Nat.{ℕ, zero, suc, _<_, _≤_, suc-le-suc}
+use Prim.Native.Nat.{ℕ, zero, suc, _+_, _<_, _≤_, suc-le-suc}
 use native.Mathlib.Nat.{not-suc-le-zero, eq-or-lt-of-le, le-of-suc-le-suc}
+use native.Mathlib.Numerals.{add-one}
 use native.Mathlib.Omega.{arith}
 use lib.Dec.{eqb}
 use borrow.Author.Tests.{eq-eqb, eqb-true}
@@ -61,6 +62,10 @@ unfolding some
 some-ext zero p q h = refl
 some-ext (suc n) p q h = rw (h n (omega arith), some-ext n p q (λ i l. h i (omega arith)))
 
+pub some-more : (p : ℕ → Bool) (n : ℕ) → some p (n + 1) ≡ p n || some p n
+unfolding some
+some-more p n = rw (add-one n)
+
 pub some-and : (p : ℕ → Bool) (y : Bool) (n : ℕ) → some (λ i. p i && y) n ≡ (some p n && y)
 unfolding some
 some-and p y zero = refl
@@ -103,3 +108,12 @@ first-none p n none =
     let most = first-in p n in
     let least : first p n < n → ⊥ = λ m. clash (first-is p n m) (none (first p n) m) in
     omega arith
+
+pub first-ext : (n : ℕ) (p q : ℕ → Bool) → ((i : ℕ) → i < n → p i ≡ q i) → first p n ≡ first q n
+unfolding first
+first-ext zero p q h = refl
+first-ext (suc n) p q h =
+    rw (
+      h 0 (omega arith),
+      first-ext n (λ i. p (suc i)) (λ i. q (suc i)) (λ i l. h (suc i) (omega arith)),
+    )

@@ -6,7 +6,7 @@ use Prim.Native.Nat.{ℕ, zero, suc, _<_}
 use native.Mathlib.Nat.{not-suc-le-zero, le-suc-iff, suc-inj, lt-suc-self, le-step}
 use native.Mathlib.Omega.{arith}
 use lib.Dec.{eqb, ltb}
-use borrow.Author.Tests.{eqb-false, ltb-true, lt-ltb}
+use borrow.Author.Tests.{eq-eqb, eqb-true, eqb-false, ltb-true, lt-ltb}
 use Rattle.bits.specs.Tests.{below}
 
 pub both-left : (a b : Bool) → a && b ≡ true → a ≡ true
@@ -63,6 +63,10 @@ unturned g false e true false = e
 unturned g true e false true = e
 unturned g false e false true = sym e
 unturned g x e false false = refl
+
+pub eqb-comm : (a b : ℕ) → eqb a b ≡ eqb b a
+eqb-comm a b =
+    same-test _ _ (λ e. eq-eqb b a (sym (eqb-true a b e))) (λ e. eq-eqb a b (sym (eqb-true b a e)))
 
 pub ltb-suc : (v k : ℕ) → eqb k v ≡ false → ltb v (suc k) ≡ ltb v k
 ltb-suc v k other =

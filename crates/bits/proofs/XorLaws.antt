@@ -1,8 +1,15 @@
 -- One of two and not the other. Assumes nothing.
 use mathlib.Core.Path.{_≡_, refl, sym}
-use mathlib.Core.Bool.{Bool, true, false, not}
+use mathlib.Core.Bool.{Bool, true, false, not, Bool·beq}
 use Rattle.bits.specs.Tests.{_⊕_}
 use Rattle.bits.proofs.SearchLaws.{clash}
+
+-- two bits compared
+pub xor-beq : (x y : Bool) → not (Bool·beq x y) ≡ x ⊕ y
+xor-beq true true = refl
+xor-beq true false = refl
+xor-beq false true = refl
+xor-beq false false = refl
 
 pub xor-no : (x y : Bool) → x ⊕ y ≡ false → x ≡ y
 xor-no true true e = refl

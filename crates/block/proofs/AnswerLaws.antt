@@ -40,6 +40,12 @@ pub answered-number : {A : Type 0} (k : ℕ) (none parts : A) → answered k non
 answered-number zero none parts = refl
 answered-number (suc k) none parts = refl
 
+-- a writer's number is its refusal's
+pub written-number : (refusal : ℕ) (bytes before after : List ℕ) (r : Written)
+    → Writes refusal bytes before after r → writtenOf r .number ≡ refusal
+written-number refusal bytes before after r w =
+    ap (λ (a : Answer ℕ). a .number) (w .told) ∙ answered-number refusal 0 (length bytes)
+
 -- success gives the parts
 pub answered-parts : {A : Type 0} (k : ℕ) (none parts x : A) → answer 0 x ≡ answered k none parts
     → (k ≡ 0) × (x ≡ parts)

@@ -1,13 +1,13 @@
 -- The rows that open pins leave unread, pin by pin. Assumes nothing.
 use mathlib.Core.Path.{_≡_, refl, ap, _∙_}
-use mathlib.Core.Bool.{Bool, true, false, not, _&&_, _||_, Bool·beq}
+use mathlib.Core.Bool.{Bool, true, false, not, _&&_, _||_, Bool·beq, or-true}
 use mathlib.Core.List.{List, [], _∷_}
 use Prim.Native.Nat.{ℕ, _/_, _%_, _^_, _<_, _≤_}
 use lib.Bits.{bitAnd}
 use native.Mathlib.Omega.{arith}
 use lib.Dec.{eqb, ltb}
 use lib.ListN.{length}
-use borrow.Author.Tests.{eqb-true, ltb-true}
+use borrow.Author.Tests.{eqb-true, ltb-true, lt-ltb}
 use Rattle.bits.specs.Bits.{rowOf}
 use Rattle.bits.specs.Tests.{below}
 use Rattle.bits.proofs.TestLaws.{same-bool, or-cases, below-at, below-ext, below-and, below-or, below-true}
@@ -76,3 +76,9 @@ fits-lt n pin within fit =
     or-cases (ltb pin n) (isOpen pin) (pin < 16) fit
     (λ low. let l = ltb-true pin n low in omega arith)
     (λ opened. let e = eqb-true pin openField opened in omega arith)
+
+-- a field that fits n inputs fits more
+pub fits-wider : (n m pin : ℕ) → n ≤ m → fieldFits n pin ≡ true → fieldFits m pin ≡ true
+fits-wider n m pin l fit =
+    or-cases (ltb pin n) (isOpen pin) (fieldFits m pin ≡ true) fit
+    (λ low. rw (lt-ltb pin m (omega (arith, ltb-true pin n low)))) (λ opened. rw opened (simp or-true))

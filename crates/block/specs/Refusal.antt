@@ -64,10 +64,13 @@ unfoldable pub tidyRefusal : (n : ℕ) (b : Block) → ℕ
 tidyRefusal n b = firstOf (tidyCases n b)
 
 -- a table of n inputs as offered: 1, 2, 3
-unfoldable pub tableRefusal : (n : ℕ) (t : List ℕ) → ℕ
-tableRefusal n t =
-    firstOf
-    (1 when tooManyInputs n
+abbrev pub tableCases : (n : ℕ) (t : List ℕ) → List Case
+tableCases n t =
+    1 when tooManyInputs n
     ∷ 2 when not (eqb (length t) (tableBytes n))
     ∷ 3 when not (eqb (padding n t) 0)
-    ∷ [])
+    ∷ []
+
+-- the number that these give
+unfoldable pub tableRefusal : (n : ℕ) (t : List ℕ) → ℕ
+tableRefusal n t = firstOf (tableCases n t)

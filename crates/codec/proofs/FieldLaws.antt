@@ -4,7 +4,7 @@ use mathlib.Core.List.{List, [], _∷_}
 use Prim.Native.Nat.{ℕ, suc, _+_, _*_, _%_, _<_}
 use native.Mathlib.Nat.{mod-eq-of-lt}
 use native.Mathlib.Omega.{arith}
-use Rattle.bits.proofs.MaskLaws.{nibble-lt}
+use Rattle.bits.proofs.FieldLaws.{nibble-lt}
 use Rattle.bits.specs.Bits.{nibble, nibbles, joined}
 
 -- four fields in a row, by their places

@@ -5,7 +5,7 @@ use Prim.Native.Nat.{ℕ, _+_, _*_, _/_, _%_, _<_}
 use native.Mathlib.Omega.{arith}
 use lib.ListN.{length}
 use Rattle.bits.specs.Bits.{byteOf}
-use Rattle.bits.proofs.MaskLaws.{field-lt}
+use Rattle.bits.proofs.FieldLaws.{field-lt}
 use Rattle.block.specs.declared.Parts.{Parts}
 use Rattle.block.specs.Code.{blockOf}
 use Rattle.codec.specs.Ten.{packOf, FieldsOfFour}

@@ -1,18 +1,15 @@
--- The rows of a table one by one, and the rows of H that an open direct pin leaves unread. Assumes
--- nothing.
-use mathlib.Core.Path.{_≡_, refl, sym, _∙_}
-use mathlib.Core.Bool.{Bool, true, false, not, _&&_, _||_, and-true, Bool·not-not}
+-- One row of a table as the code fills it, and the rows of H that an open direct pin leaves unread.
+-- Assumes nothing.
+use mathlib.Core.Path.{_≡_, refl, _∙_}
+use mathlib.Core.Bool.{false, not, _&&_, _||_, and-true, Bool·not-not}
 use mathlib.Core.List.{[], _∷_}
-use Prim.Native.Nat.{ℕ, zero, suc, _+_, _-_, _*_, _^_, _<_, _≤_}
-use native.Mathlib.Numerals.{add-one}
-use native.Mathlib.Omega.{arith}
+use Prim.Native.Nat.{ℕ, _+_, _-_, _*_, _<_}
 use lib.Bits.{bitAnd}
 use lib.Dec.{eqb}
-use mir.Val.{boolByte}
 use borrow.Author.Tests.{eq-eqb, ne-eqb}
-use Rattle.bits.specs.Bits.{bit, has, num, ofRows}
+use Rattle.bits.specs.Bits.{bit, has, num}
 use Rattle.bits.specs.Tests.{_⊕_}
-use Rattle.bits.proofs.BitLaws.{num-le}
+use Rattle.bits.proofs.MaskLaws.{same-bits}
 use Rattle.block.specs.Block.{isOpen}
 use Rattle.block.specs.Value.{openLevel}
 use Rattle.block.specs.Tidy.{quiet}
@@ -21,7 +18,6 @@ use Rattle.wiring.specs.Wire.{reads}
 use Rattle.contents.specs.declared.Side.{Side}
 use Rattle.contents.specs.declared.Wires.{Wires}
 use Rattle.contents.specs.Code.{selectedBy, shownBy, componentBy, filledBy}
-use Rattle.contents.proofs.MaskLaws.{same-bits}
 
 pub direct-quiet : (h pin : ℕ) → h < 256
     → quiet 8 h (pin ∷ []) ≡ not (isOpen pin) || eqb (bitAnd h (85 * (openLevel + 1))) 0
@@ -29,29 +25,6 @@ direct-quiet h pin fits =
     quiet-pin 8 h pin []
     ∙ rw (quiet-none 8 h, ← mask-quiet 8 h (85 * (openLevel + 1)) 0 fits refl)
     (and-true (not (isOpen pin) || eqb (bitAnd h (85 * (openLevel + 1))) 0))
-
-more-rows : (w : ℕ) (g : ℕ → Bool) → ofRows (suc w) g ≡ ofRows w g * 2 + num (g w)
-unfolding ofRows
-more-rows zero g = omega arith
-more-rows (suc w) g =
-    let rest = more-rows w (λ k. g (suc k)) in
-    let double : num (g 0) * 2 ^ suc w ≡ num (g 0) * 2 ^ w * 2 = go (g 0) in
-    omega arith
-  where
-    go : (b : Bool) → num b * 2 ^ suc w ≡ num b * 2 ^ w * 2
-    go true = omega arith
-    go false = omega arith
-
--- rows taken in one by one, from row 0 on
-pub ofRows-more : (w : ℕ) (g : ℕ → Bool) → ofRows w g * 2 + num (g w) ≡ ofRows (w + 1) g
-ofRows-more w g = rw (add-one w) (sym (more-rows w g))
-
-pub byte-num : (b : Bool) → boolByte b ≡ num b
-byte-num true = refl
-byte-num false = refl
-
-pub byte-le : (b : Bool) → boolByte b ≤ 1
-byte-le b = rw (byte-num b) (num-le b)
 
 module _ (w : Wires) (s : Side) (poles : ℕ → ℕ) (at x row : ℕ) (is : row ≡ shownBy (s .key) x) where
   pub filled-not : (selectedBy (s .key) row ≡ x → ⊥) → false ≡ filledBy w s poles at x

@@ -1,41 +1,28 @@
 -- What the walks over the rows gather, row by row: the rows where a table changes, and what each
 -- component asks of table H. Assumes nothing.
 use mathlib.Core.Path.{_≡_, refl, sym, ap, ap₂, _∙_}
-use mathlib.Core.Bool.{Bool, true, false, not, _&&_, _||_, and-false, Bool·beq, or-comm}
+use mathlib.Core.Bool.{Bool, true, false, not, _&&_, _||_, and-false, and-true, Bool·beq, or-comm}
 use mathlib.Core.List.{List}
 use Prim.Native.Nat.{ℕ, _+_, _-_, _*_, _/_, _%_, _^_, _<_}
-use native.Mathlib.Numerals.{add-one}
 use native.Mathlib.Omega.{arith}
 use lib.Bits.{bitAnd, bitOr}
 use lib.Dec.{eqb}
 use lib.ListN.{length, getD, set, replicate, getD-replicate}
 use lib.Seq.{getD-set-same, getD-set-other}
-use borrow.Author.Tests.{eq-eqb, ne-eqb, eqb-true, eqb-false}
+use borrow.Author.Tests.{eq-eqb, eqb-true, eqb-false}
 use Rattle.bits.specs.Bits.{has}
 use Rattle.bits.specs.Tests.{some, below, _⊕_}
-use Rattle.bits.proofs.SearchLaws.{byBool, clash}
-use Rattle.bits.proofs.TestLaws.{same-bool, below-at}
-use Rattle.bits.proofs.XorLaws.{xor-eq}
+use Rattle.bits.proofs.SearchLaws.{byBool, some-more}
+use Rattle.bits.proofs.TestLaws.{same-bool, eqb-comm, below-at}
+use Rattle.bits.proofs.XorLaws.{xor-beq, xor-eq}
 use Rattle.bits.proofs.BitLaws.{has-of-0, has-or, has-set}
+use Rattle.bits.proofs.SetLaws.{one-shifted}
 use Rattle.wiring.specs.Wire.{truth}
 use Rattle.contents.specs.declared.Wires.{Wires}
 use Rattle.contents.specs.Code.{selectedBy, changesBy, componentBy, slotBy, askedBy, Marks}
-use Rattle.contents.proofs.MaskLaws.{one-shifted}
-
-some-more : (p : ℕ → Bool) (m : ℕ) → some p (m + 1) ≡ p m || some p m
-unfolding some
-some-more p m = rw (add-one m)
-
-eqb-turn : (x y : ℕ) → eqb x y ≡ eqb y x
-eqb-turn x y =
-    byBool (eqb x y) (λ e. e ∙ sym (eq-eqb y x (sym (eqb-true x y e))))
-    (λ e. let other = eqb-false x y e in e ∙ sym (ne-eqb y x (λ q. other (sym q))))
 
 differ : (a b : Bool) → Bool·beq a b ≡ false → a ⊕ b ≡ true
-differ true true e = clash refl e
-differ true false e = refl
-differ false true e = refl
-differ false false e = clash refl e
+differ a b e = sym (xor-beq a b) ∙ ap not e
 
 module _ (t : List ℕ) (key keep : ℕ) where
   -- the rows below m are gathered
@@ -63,16 +50,13 @@ module _ (t : List ℕ) (key keep : ℕ) where
     unfolding changesBy
     gathered-more other k is fits x l =
         let here : change x m ≡ eqb x k =
-        rw (differ (truth t m) (truth t (bitAnd m keep)) other, ← is) (truly (eqb k x) ∙ eqb-turn k x) in
+        rw (differ (truth t m) (truth t (bitAnd m keep)) other, ← is)
+        (and-true (eqb k x) ∙ eqb-comm k x) in
         rw (one-shifted k 16 fits)
         (has-set found k x
         ∙ or-comm (has found x) (eqb x k)
         ∙ ap₂ _||_ (sym here) (gathered x l)
         ∙ sym (some-more (change x) m))
-      where
-        truly : (b : Bool) → b && true ≡ b
-        truly true = refl
-        truly false = refl
 
 -- row e of H in bit 7 - e
 abbrev marksBit : ℕ → ℕ → Bool
@@ -101,20 +85,13 @@ module _ (t : List ℕ) (w : Wires) (v : Bool) where
     unfolding askedBy
     marks-skip other s e l k =
         let none : asks s e m ≡ false =
-        rw other (never (eqb (componentBy w m) s) (eqb (slotBy w m) e)) in
+        rw (other, and-false (eqb (slotBy w m) e)) (and-false (eqb (componentBy w m) s)) in
         marks s e l k ∙ sym (some-more (asks s e) m ∙ rw none)
-      where
-        never : (p q : Bool) → p && (q && false) ≡ false
-        never p q = rw (and-false q) (and-false p)
 
     module _ (value : truth t m ≡ v) (long : length bytes ≡ 16) where
       asks-here : (s e : ℕ) → asks s e m ≡ eqb (componentBy w m) s && eqb (slotBy w m) e
       asks-here s e =
-          rw (xor-eq (truth t m) v value) (truly (eqb (componentBy w m) s) (eqb (slotBy w m) e))
-        where
-          truly : (p q : Bool) → p && (q && true) ≡ p && q
-          truly p true = refl
-          truly p false = refl
+          rw (xor-eq (truth t m) v value, and-true (eqb (slotBy w m) e))
 
       module _ (c k : ℕ) (is-c : c ≡ componentBy w m) (c-fits : c < 16) (is-k : k ≡ slotBy w m)
           (k-fits : k < 8) where

@@ -1,6 +1,6 @@
 -- The least of the contents over all tables H is the least that compute t on the wiring, and what
 -- `least` promises leaves one answer. Assumes nothing.
-use mathlib.Core.Path.{_≡_, refl, sym, _∙_}
+use mathlib.Core.Path.{_≡_, refl, sym, ap, _∙_}
 use mathlib.Core.Bool.{true, false, _&&_}
 use mathlib.Core.List.{List, [], _∷_}
 use Prim.Native.Nat.{ℕ, _+_, _*_, _/_, _%_, _^_, _<_, _≤_}
@@ -13,7 +13,7 @@ use Rattle.bits.specs.Tests.{some}
 use Rattle.bits.proofs.SearchLaws.{byBool, clash, none-out}
 use Rattle.bits.proofs.TestLaws.{both-left, both-right}
 use Rattle.block.specs.Tidy.{quiet, lutQuiet, rowsQuiet}
-use Rattle.wiring.specs.Wire.{Wiring, Wired}
+use Rattle.wiring.specs.Wire.{Wiring, Wired, blockOn}
 use Rattle.wiring.specs.Test.{component, holds, rowsF, rowsG}
 use Rattle.wiring.proofs.ChoiceLaws.{component-lt}
 use Rattle.wiring.proofs.TestLaws.{holds-of-block, block-of-holds, rows-least, some-first}
@@ -37,6 +37,20 @@ module _ (f g h : ℕ) (g-fits : g < 2 ^ 16) (h-fits : h < 2 ^ 8) where
   h-part : ((f * 65536 + g) * 256 + h) % 2 ^ 8 ≡ h
   h-part = omega arith
 
+  pub block-with : (p q direct : ℕ)
+      → blockWith p q direct ((f * 65536 + g) * 256 + h) ≡ blockOn (wiringOf p q direct) f g h
+  block-with p q direct = rw (f-part, g-part, h-part)
+
+-- no contents at all
+pub none-fill : (n : ℕ) (t : List ℕ) (f g direct : ℕ) → ((y : ℕ) → Fills n t f g direct y → ⊥)
+    → LeastFilling n t f g direct noContents
+none-fill n t f g direct never =
+    record {
+      most = omega arith;
+      fills = λ l. absurd (omega arith);
+      least = λ y fills. absurd (never y fills);
+    }
+
 module _ (n : ℕ) (t : List ℕ) (f g direct : ℕ) (tidy : isWiring n f g direct ≡ true) where
   abbrev w : Wiring
   w = wiringOf f g direct
@@ -54,23 +68,19 @@ module _ (n : ℕ) (t : List ℕ) (f g direct : ℕ) (tidy : isWiring n f g dire
   found-fills h l hushed held =
       let in-f = rowsF-lt n t w pins h in
       let in-g = rowsG-lt n t w pins h in
-      let is-f = f-part (rowsF n t w h) (rowsG n t w h) h in-g l in
-      let is-g = g-part (rowsF n t w h) (rowsG n t w h) h in-g l in
-      let is-h = h-part (rowsF n t w h) (rowsG n t w h) h in-g l in
+      let same = block-with (rowsF n t w h) (rowsG n t w h) h in-g l f g direct in
       record {
         small = omega arith;
         quiet =
-            rw (
-              is-f,
-              is-g,
-              is-h,
+            ap rowsQuiet same
+            ∙ rw (
               pins .f-four,
               pins .g-four,
               rowsF-quiet n t w pins h,
               rowsG-quiet n t w pins h,
               hushed,
             );
-        computes = rw (is-f, is-g, is-h) (block-of-holds n t w pins h held);
+        computes = rw same (block-of-holds n t w pins h held);
       }
 
   module _ (x : Wires) (are : AreWires n t w x) (a : Asked) (ask : AreAsked t x (2 ^ n) a) where
@@ -126,21 +136,18 @@ module _ (n : ℕ) (t : List ℕ) (f g direct : ℕ) (tidy : isWiring n f g dire
     pub none-possible : some (possibleBy x a) 256 ≡ false → LeastFilling n t f g direct noContents
     unfolding possibleBy
     none-possible none =
-        record {
-          most = omega arith;
-          fills = λ l. absurd (omega arith);
-          least = λ y fills.
-              let first =
-              some-first n t w pins (y / 2 ^ 24) (y / 2 ^ 8 % 2 ^ 16) (y % 2 ^ 8) (fills .computes) in
-              let k = first .0 in
-              let is : componentBy x 0 ≡ component n w 0 = component-as n t w pins x are 0 (pow-pos n) in
-              let serves-first =
-              serves-as n t w pins x are a ask k (component n w 0) (component-lt n t w pins 0) 0
-              ∙ first .3 in
-              let holds-all = holds-as n t w pins x are a ask k ∙ first .2 in
-              let possible : possibleBy x a k ≡ true = rw (is, serves-first, holds-all) in
-              clash possible (none-out (possibleBy x a) 256 none k (first .1));
-        }
+        none-fill n t f g direct
+        (λ y fills.
+        let first =
+        some-first n t w pins (y / 2 ^ 24) (y / 2 ^ 8 % 2 ^ 16) (y % 2 ^ 8) (fills .computes) in
+        let k = first .0 in
+        let is : componentBy x 0 ≡ component n w 0 = component-as n t w pins x are 0 (pow-pos n) in
+        let serves-first =
+        serves-as n t w pins x are a ask k (component n w 0) (component-lt n t w pins 0) 0
+        ∙ first .3 in
+        let holds-all = holds-as n t w pins x are a ask k ∙ first .2 in
+        let possible : possibleBy x a k ≡ true = rw (is, serves-first, holds-all) in
+        clash possible (none-out (possibleBy x a) 256 none k (first .1)))
 
 module _ (n : ℕ) (t : List ℕ) (f g direct : ℕ) where
   pub weighs-refused : isWiring n f g direct ≡ false → Weighs n t f g direct noContents

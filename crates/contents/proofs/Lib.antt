@@ -1,6 +1,6 @@
 -- The laws of contents. Assumes nothing.
-pub mod MaskLaws
 pub mod TurnLaws
+pub mod SizeLaws
 pub mod ChoiceLaws
 pub mod FillLaws
 pub mod MinimumLaws
@@ -8,6 +8,5 @@ pub mod GatherLaws
 pub mod PoleLaws
 pub mod WeighLaws
 pub mod SideLaws
-pub mod SeenLaws
 pub mod StandLaws
 pub mod LeastLaws

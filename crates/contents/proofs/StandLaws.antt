@@ -3,15 +3,17 @@
 use mathlib.Core.Path.{_≡_, refl, ap, ap₂, _∙_}
 use mathlib.Core.Bool.{Bool, true, false, not, _&&_, _||_}
 use mathlib.Core.List.{List, [], _∷_}
-use Prim.Native.Nat.{ℕ, zero, suc, _+_, _-_, _*_, _^_, _<_}
+use Prim.Native.Nat.{ℕ, zero, _+_, _-_, _*_, _^_, _<_}
 use native.Mathlib.Omega.{arith}
+use lib.Bits.{bitAnd, and-le-l}
 use lib.Dec.{eqb, ltb}
 use lib.ListN.{length, getD}
 use Rattle.bits.specs.Bits.{has, num, ofRows}
-use Rattle.bits.specs.Tests.{pick, every, first, _⊕_}
-use Rattle.bits.proofs.SearchLaws.{some-ext}
+use Rattle.bits.specs.Tests.{pick, every, _⊕_}
+use Rattle.bits.proofs.SearchLaws.{some-ext, first-ext}
 use Rattle.bits.proofs.TestLaws.{below-ext}
 use Rattle.bits.proofs.RowLaws.{ofRows-ext}
+use Rattle.bits.proofs.SetLaws.{masked-row}
 use Rattle.block.specs.Value.{selected}
 use Rattle.block.specs.Tidy.{fieldFits, quiet}
 use Rattle.wiring.specs.Wire.{Wiring, Wired, exchanged, truth, reads, only, shown, shared, bridged}
@@ -19,6 +21,7 @@ use Rattle.wiring.specs.Test.{changes, component, slot, asked, poleF, poleG, st
 use Rattle.wiring.specs.Test.{serves, choice, holds, filled, rowsF, rowsG}
 use Rattle.wiring.proofs.SelectLaws.{selected-four}
 use Rattle.wiring.proofs.ShownLaws.{shown-lt}
+use Rattle.wiring.proofs.ShowsLaws.{shown-nine}
 use Rattle.wiring.proofs.ChoiceLaws.{component-lt}
 use Rattle.contents.specs.declared.Side.{Side}
 use Rattle.contents.specs.declared.Wires.{Wires}
@@ -27,17 +30,6 @@ use Rattle.contents.specs.Contents.{noContents}
 use Rattle.contents.specs.Code.{IsSide, AreWires, componentBy, changedBy, slotBy, askedBy}
 use Rattle.contents.specs.Code.{AreAsked, allowedBy, servesBy, choiceBy, choiceAt, holdsBy}
 use Rattle.contents.specs.Code.{shownBy, filledBy, weighBy}
-use Rattle.contents.proofs.MaskLaws.{masked-row}
-use Rattle.contents.proofs.SeenLaws.{shown-nine}
-
-first-ext : (n : ℕ) (p q : ℕ → Bool) → ((i : ℕ) → i < n → p i ≡ q i) → first p n ≡ first q n
-unfolding first
-first-ext zero p q h = refl
-first-ext (suc n) p q h =
-    rw (
-      h 0 (omega arith),
-      first-ext n (λ i. p (suc i)) (λ i. q (suc i)) (λ i l. h (suc i) (omega arith)),
-    )
 
 changed-as : (n : ℕ) (t : List ℕ) (w : Wiring) (s : Side) → IsSide n t w s → length (w .f) ≡ 4
     → (r : ℕ) → changedBy s r ≡ changes n t w (selected (w .f) r)
@@ -59,7 +51,8 @@ module _ (n : ℕ) (t : List ℕ) (w : Wiring) (wired : Wired n w) (x : Wires) (
   pub component-as : (r : ℕ) → r < 2 ^ n → componentBy x r ≡ component n w r
   unfolding componentBy component only
   component-as r l =
-      ap₂ selected (are .in-f .pins) (masked-row n r (x .shared) (shared w) l (are .both))
+      let less : bitAnd r (x .shared) < 2 ^ n = omega (arith, and-le-l r (x .shared)) in
+      ap₂ selected (are .in-f .pins) (masked-row n r (x .shared) (shared w) less (are .both))
 
   slot-as : (r : ℕ) → slotBy x r ≡ slot n t w r
   unfolding slotBy slot

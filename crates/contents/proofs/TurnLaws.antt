@@ -11,10 +11,10 @@ use Rattle.bits.specs.Tests.{below, pick}
 use Rattle.bits.proofs.SearchLaws.{byBool}
 use Rattle.bits.proofs.TestLaws.{same-bool, both-left, both-right, below-at, below-ext, below-and}
 use Rattle.bits.proofs.BitLaws.{has-zero, has-and, has-or}
+use Rattle.bits.proofs.MaskLaws.{same-bits, subset-rows, disjoint-rows}
 use Rattle.wiring.specs.Test.{poleF, poleG, steady, turned, hRow}
 use Rattle.contents.specs.declared.Wires.{Wires}
 use Rattle.contents.specs.Code.{flip, allowedBy, servesBy}
-use Rattle.contents.proofs.MaskLaws.{same-bits, subset-rows, disjoint-rows}
 
 -- the two halves of H exchanged; the two quarters of each half exchanged
 abbrev halves : ℕ → ℕ

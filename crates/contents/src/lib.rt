@@ -1,4 +1,7 @@
 // The least contents of F, G and H that compute a table on given pins: the test of one wiring.
+// A component is one value of the variables that F and G share, the direct pin's left out. Within one
+// the table fixes F and G up to turning their outputs over; whether they are turned is a polarity.
+// For each H, the first polarities that serve each component give the least F, then the least G.
 ghost use mathlib.Core.Path.{_≡_};
 ghost use mathlib.Core.Bool.{true, false, _&&_};
 ghost use mathlib.Core.List.{[], _∷_};
@@ -271,11 +274,11 @@ fn possible(w: Wires, a: Asked) -> bool
     let zero = a.zero;
     let s = component(w, 0) as usize;
     for h in 0u16..256 {
-        let table = h as u8;
-        if !served(w, table, one[s], zero[s], 0) {
+        let tried = h as u8;
+        if !served(w, tried, one[s], zero[s], 0) {
             continue;
         }
-        if choices(w, a, table).fine {
+        if choices(w, a, tried).fine {
             return true;
         }
     }

@@ -1,15 +1,15 @@
 -- What stands in the 64 bits, and that they leave one answer. Assumes nothing.
-use mathlib.Core.Path.{_≡_, refl, sym, ap, _∙_}
+use mathlib.Core.Path.{_≡_, sym, ap, _∙_}
 use mathlib.Core.List.{List}
-use Prim.Native.Nat.{ℕ, _+_, _*_}
+use Prim.Native.Nat.{ℕ, _*_}
 use native.Mathlib.Omega.{arith}
 use lib.ListN.{length}
 use Rattle.block.specs.declared.Written.{Written}
 use Rattle.block.specs.declared.Written.the-variants.{Length, Refused}
 use Rattle.block.specs.declared.Refusal.{Refusal}
 use Rattle.block.specs.Refusal.{numberOf}
-use Rattle.block.specs.Answer.{Answer, writtenOf, answered}
-use Rattle.block.proofs.AnswerLaws.{answered-number, answered-parts}
+use Rattle.block.specs.Answer.{writtenOf}
+use Rattle.block.proofs.AnswerLaws.{answered-parts}
 use Rattle.codec.specs.Ten.{packOf}
 use Rattle.round.proofs.PackedLaws.{packed-ten}
 use Rattle.matcher.specs.Match.{matchRefusal, Matched, refused, unmatched, matched}

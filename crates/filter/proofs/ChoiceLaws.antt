@@ -7,8 +7,7 @@ use native.Mathlib.Numerals.{add-one}
 use native.Mathlib.Omega.{arith}
 use lib.Bits.{bitAnd}
 use lib.Dec.{ltb}
-use lib.ListN.{length, getD, replicate, length-append, length-set}
-use lib.ListN.{set as put}
+use lib.ListN.{length, getD, replicate, length-append, length-set, set as put}
 use borrow.Author.Tests.{lt-ltb, le-ltb}
 use Rattle.bits.specs.Tests.{some}
 use Rattle.bits.proofs.SearchLaws.{some-ext}

@@ -9,12 +9,12 @@ use native.Mathlib.Omega.{arith}
 use lib.Bits.{bitAnd, bitOr, and-le-r, or-lt}
 use lib.Dec.{ltb}
 use lib.Pow.{pow-mono}
-use borrow.Author.Tests.{ne-eqb, ltb-true, ltb-false}
-use Rattle.bits.specs.Bits.{has, ofBits}
+use borrow.Author.Tests.{ltb-true, ltb-false}
+use Rattle.bits.specs.Bits.{has}
 use Rattle.bits.proofs.SearchLaws.{byBool, clash}
-use Rattle.bits.proofs.TestLaws.{both-left, both-right, or-cases}
-use Rattle.bits.proofs.BitLaws.{has-and, has-or, has-high, has-ofBits, ofBits-ext}
-use Rattle.block.specs.Block.{isOpen}
+use Rattle.bits.proofs.TestLaws.{both-left, both-right}
+use Rattle.bits.proofs.BitLaws.{has-and, has-or, has-high, has-ofBits}
+use Rattle.bits.proofs.SetLaws.{bits-le}
 use Rattle.block.specs.Value.{selected}
 use Rattle.block.specs.Tidy.{fieldFits}
 use Rattle.block.specs.Kind.{carries}
@@ -22,9 +22,12 @@ use Rattle.subsets.specs.Masks.{pinsOfMask, Small}
 use Rattle.subsets.proofs.PinLaws.{carries-mask}
 use Rattle.wiring.specs.Wire.{reads, only, without, shows, shown}
 use Rattle.wiring.specs.Fits.{Fits}
+use Rattle.wiring.proofs.ReadLaws.{variable-carried, carried-lt, reads-ext}
+use Rattle.wiring.proofs.OnlyLaws.{has-without, only-agree}
+use Rattle.wiring.proofs.ShownLaws.{ends-selected}
+use Rattle.wiring.proofs.ShowsLaws.{shows-member, shows-same}
 use Rattle.filter.specs.Two.{apart, twoOf}
 use Rattle.filter.specs.Words.{placeOf, restOf, wordOf, wordsOf}
-use Rattle.filter.proofs.SeenLaws.{reads-same, shows-same, shows-member, bits-le}
 use Rattle.filter.proofs.TwoLaws.{apart-out, two-true}
 use Rattle.filter.proofs.WordLaws.{same-word, words-at}
 
@@ -42,8 +45,8 @@ module _ (f : ℕ) (small : Small f) where
   shown-in : (a v : ℕ) → v < 9 → shows (pinsOfMask f) a v ≡ true → has f v ≡ true
   unfolding carries
   shown-in a v l h =
-      let closed : isOpen v ≡ false = ne-eqb v 15 (omega arith) in
-      sym (carries-mask f small v l) ∙ rw (closed, shows-member (pinsOfMask f) a v h)
+      sym (carries-mask f small v l)
+      ∙ rw (variable-carried 9 v (omega arith) l, shows-member (pinsOfMask f) a v h)
 
   shown-out : (a v : ℕ) → v < 9 → has f v ≡ false → shows (pinsOfMask f) a v ≡ false
   shown-out a v l e =
@@ -63,14 +66,11 @@ module _ (within f : ℕ) where
   -- no variable of the set is in a part of the rest
   rest-out : (y v : ℕ) → f < 2 ^ 9 → has f v ≡ true
       → has (bitAnd y (restOf within f)) v ≡ false
-  unfolding without
   rest-out y v l e =
-      let rest = ofBits 9 (λ v. not (has f v) && has within v) in
-      let out : has rest v ≡ false =
-      byBool (ltb v 9)
-      (λ b. has-ofBits 9 (λ v. not (has f v) && has within v) v (ltb-true v 9 b) ∙ rw e)
+      let out : has (restOf within f) v ≡ false =
+      byBool (ltb v 9) (λ b. has-without 9 (has f) within v (ltb-true v 9 b) ∙ rw e)
       (λ b. clash e (has-high 9 f v l (ltb-false v 9 b))) in
-      has-and y rest v ∙ rw out (and-false (has y v))
+      has-and y (restOf within f) v ∙ rw out (and-false (has y v))
 
 module _ (n : ℕ) (t : List ℕ) (within f : ℕ) (g : ℕ → Bool) (d : ℕ) (inputs : n ≤ 9)
     (small : Small f) (f-below : f < 2 ^ n) (direct : fieldFits n d ≡ true) (m : ℕ)
@@ -101,15 +101,11 @@ module _ (n : ℕ) (t : List ℕ) (within f : ℕ) (g : ℕ → Bool) (d : ℕ) 
 
   -- what F sees of it
   row-f : (a y : ℕ) → only n (has f) (row a y) ≡ only n (has f) (placeOf f a)
-  unfolding only
   row-f a y =
-      ofBits-ext n _ _
-      (λ v l.
-      byBool (has f v)
-      (λ e.
-      rw (e, has-or (placeOf f a) (part y) v, rest-out within f y v (small .nine) e)
+      only-agree n (has f) (row a y) (placeOf f a)
+      (λ v l e.
+      rw (has-or (placeOf f a) (part y) v, rest-out within f y v (small .nine) e)
       (or-false (has (placeOf f a) v)))
-      (λ e. rw e))
 
   module _ (a b : ℕ) (same : bitAnd a key ≡ bitAnd b key) where
     kept : (i : ℕ) → has key i ≡ true → has a i ≡ has b i
@@ -121,10 +117,11 @@ module _ (n : ℕ) (t : List ℕ) (within f : ℕ) (g : ℕ → Bool) (d : ℕ) 
     row-bit : (y v : ℕ) → v < n → has m v ≡ true → has (row a y) v ≡ has (row b y) v
     unfolding shown
     row-bit y v l on =
-        let closed : isOpen v ≡ false = ne-eqb v 15 (omega arith) in
+        let closed = variable-carried n v inputs l in
         let shows-a = has-ofBits 9 (shows (pinsOfMask f) a) v (omega arith) in
         let shows-b = has-ofBits 9 (shows (pinsOfMask f) b) v (omega arith) in
-        let alike = shows-same a b m v closed on (pinsOfMask f) (λ i h. kept i) in
+        let ends = ends-selected (pinsOfMask f) m in
+        let alike = shows-same a b m v closed on (pinsOfMask f) key ends (λ i h. kept i) in
         rw (
           has-or (placeOf f a) (part y) v,
           has-or (placeOf f b) (part y) v,
@@ -134,19 +131,12 @@ module _ (n : ℕ) (t : List ℕ) (within f : ℕ) (g : ℕ → Bool) (d : ℕ) 
         )
 
     row-g : (y : ℕ) → only n g (row a y) ≡ only n g (row b y)
-    unfolding only
-    row-g y =
-        ofBits-ext n _ _
-        (λ v l.
-        byBool (g v) (λ e. rw (e, row-bit y v l (sees-g v l e))) (λ e. rw e))
+    row-g y = only-agree n g (row a y) (row b y) (λ v l e. row-bit y v l (sees-g v l e))
 
     row-direct : (y : ℕ) → reads d (row a y) ≡ reads d (row b y)
     row-direct y =
-        reads-same d (row a y) (row b y)
-        (λ closed.
-        let below =
-        or-cases (ltb d n) (isOpen d) (d < n) direct (ltb-true d n) (λ e. clash e closed) in
-        row-bit y d below (sees-d d below refl))
+        reads-ext d (row a y) (row b y)
+        (λ closed. let below = carried-lt n d direct closed in row-bit y d below (sees-d d below refl))
 
     -- F's output decides the word
     by-f : output a ≡ output b → wordOf t within f a ≡ wordOf t within f b

@@ -4,7 +4,6 @@ pub mod TwoLaws
 pub mod WordLaws
 pub mod FillLaws
 pub mod SupportLaws
-pub mod SeenLaws
 pub mod FitLaws
 pub mod ChoiceLaws
 pub mod ListedLaws

@@ -16,8 +16,7 @@ use Rattle.bits.proofs.SearchLaws.{byBool, some-out}
 use Rattle.bits.proofs.BitLaws.{has-and}
 use Rattle.subsets.specs.Masks.{masks, keyOf, Small}
 use Rattle.subsets.proofs.MaskLaws.{masks-rule}
-use Rattle.filter.specs.Choices.{contains, served, joining, usefulTo, usefulOf}
-use Rattle.filter.specs.Choices.{choicesOf, Listed}
+use Rattle.filter.specs.Choices.{contains, served, joining, usefulTo, usefulOf, choicesOf, Listed}
 use Rattle.filter.proofs.FillLaws.{filled-at}
 
 -- the set has the variables of m inside `within`

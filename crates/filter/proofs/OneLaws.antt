@@ -1,124 +1,26 @@
 -- A set has at most one variable where `set & (set - 1)` is 0; else there is one besides any given
 -- variable. Assumes nothing.
-use mathlib.Core.Path.{_≡_, refl, sym, ap, _∙_}
-use mathlib.Core.Bool.{Bool, true, false}
-use Prim.Native.Nat.{ℕ, zero, suc, _+_, _-_, _*_, _/_, _%_, _^_, _<_}
+use mathlib.Core.Path.{_≡_, ap}
+use mathlib.Core.Bool.{true, false}
+use Prim.Native.Nat.{ℕ, _-_, _^_, _<_}
 use native.Mathlib.Omega.{arith}
+use lib.Bits.{bitAnd}
 use lib.Dec.{eqb, leb}
-use lib.Bits.{bitAnd, and-step, and-self}
-use borrow.Author.Tests.{eq-eqb, ne-eqb, eqb-true, eqb-false, le-leb, lt-leb, leb-false}
+use borrow.Author.Tests.{leb-false}
 use Rattle.bits.specs.Bits.{has}
-use Rattle.bits.specs.Tests.{pick, count}
-use Rattle.bits.proofs.SearchLaws.{byBool}
-use Rattle.bits.proofs.BitLaws.{has-zero, has-suc, has-of-0}
+use Rattle.bits.specs.Tests.{count}
+use Rattle.bits.proofs.CountLaws.{two-counted}
+use Rattle.bits.proofs.OneBitLaws.{count-none, one-bit}
 use Rattle.filter.specs.Support.{oneAtMost}
-
-count-ext : (n : ℕ) (g h : ℕ → Bool) → ((i : ℕ) → g i ≡ h i) → count g n ≡ count h n
-count-ext zero g h e = refl
-count-ext (suc n) g h e = rw (e n, count-ext n g h e)
-
--- the first one apart
-count-first : (g : ℕ → Bool) (n : ℕ) → count g (suc n) ≡ pick (g 0) 1 0 + count (λ i. g (suc i)) n
-count-first g zero = refl
-count-first g (suc n) = let rest = count-first g n in omega arith
-
--- the units bit apart
-count-half : (x n : ℕ) → count (has x) (suc n) ≡ x % 2 + count (has (x / 2)) n
-count-half x n =
-    let rest = count-ext n (λ i. has x (suc i)) (has (x / 2)) (has-suc x) in
-    let units : pick (has x 0) 1 0 ≡ x % 2 = rw (has-zero x) (last (eqb (x % 2) 1) refl) in
-    count-first (has x) n ∙ rw (units, rest)
-  where
-    last : (b : Bool) → eqb (x % 2) 1 ≡ b → pick b 1 0 ≡ x % 2
-    last true e = sym (eqb-true (x % 2) 1 e)
-    last false e = let other = eqb-false (x % 2) 1 e in omega arith
-
-count-none : (n : ℕ) → count (has 0) n ≡ 0
-count-none zero = refl
-count-none (suc n) = rw (has-of-0 n, count-none n)
-
-count-some : (n x : ℕ) → x < 2 ^ n → 0 < x → 0 < count (has x) n
-count-some zero x l p = absurd (omega arith)
-count-some (suc n) x l p =
-    rw (count-half x n)
-    (byBool (eqb (x % 2) 1) (λ e. let odd = eqb-true (x % 2) 1 e in omega arith)
-    (λ e.
-    let even = eqb-false (x % 2) 1 e in
-    let rest = count-some n (x / 2) (omega arith) (omega arith) in
-    omega arith))
-
--- twice a number is 0 where the number is
-doubled : (x y : ℕ) → x ≡ y * 2 → eqb x 0 ≡ eqb y 0
-doubled x y twice =
-    byBool (eqb y 0)
-    (λ e. let none = eqb-true y 0 e in rw e (eq-eqb x 0 (omega arith)))
-    (λ e. let some = eqb-false y 0 e in rw e (ne-eqb x 0 (omega arith)))
-
--- one bit and the rest, which is 0 or has a bit more
-one-and : (n q : ℕ) → q < 2 ^ n → eqb q 0 ≡ leb (1 + count (has q) n) 1
-one-and n q l =
-    byBool (eqb q 0)
-    (λ e.
-    let none = eqb-true q 0 e in
-    let empty : count (has q) n ≡ 0 = rw none (count-none n) in
-    rw e (sym (le-leb (1 + count (has q) n) 1 (omega arith))))
-    (λ e.
-    let more = eqb-false q 0 e in
-    let some = count-some n q l (omega arith) in
-    rw e (sym (lt-leb (1 + count (has q) n) 1 (omega arith))))
-
-lowered : (n x : ℕ) → x < 2 ^ n → 0 < x → eqb (bitAnd x (x - 1)) 0 ≡ leb (count (has x) n) 1
-lowered zero x l p = absurd (omega arith)
-lowered (suc n) x l p =
-    let step = and-step x (x - 1) in
-    rw (count-half x n)
-    (byBool (eqb (x % 2) 1)
-    (λ e.
-    let odd = eqb-true (x % 2) 1 e in
-    let half : (x - 1) / 2 ≡ x / 2 = omega arith in
-    let even : (x - 1) % 2 ≡ 0 = omega arith in
-    let halves = rw (half, even, odd, and-self (x / 2)) at step in
-    rw odd (doubled (bitAnd x (x - 1)) (x / 2) (omega arith) ∙ one-and n (x / 2) (omega arith)))
-    (λ e.
-    let other = eqb-false (x % 2) 1 e in
-    let even : x % 2 ≡ 0 = omega arith in
-    let half : (x - 1) / 2 ≡ x / 2 - 1 = omega arith in
-    let halves = rw (half, even) at step in
-    let rest = lowered n (x / 2) (omega arith) (omega arith) in
-    let none : 0 + count (has (x / 2)) n ≡ count (has (x / 2)) n = omega arith in
-    rw (even, none) (doubled (bitAnd x (x - 1)) (bitAnd (x / 2) (x / 2 - 1)) (omega arith) ∙ rest)))
 
 pub one-lowered : (set : ℕ) → set < 2 ^ 16 → (set ≡ 0 → ⊥)
     → eqb (bitAnd set (set - 1)) 0 ≡ oneAtMost set
 unfolding oneAtMost
-one-lowered set l some = lowered 16 set l (omega arith)
+one-lowered set l some = one-bit 16 set l (omega arith)
 
 pub one-empty : oneAtMost 0 ≡ true
 unfolding oneAtMost
 one-empty = ap (λ (k : ℕ). leb k 1) (count-none 16)
-
-some-counted : (g : ℕ → Bool) (n : ℕ) → 0 < count g n → (u : ℕ) × (u < n) × (g u ≡ true)
-some-counted g zero l = absurd (omega arith)
-some-counted g (suc n) l =
-    byBool (g n) (λ e. (n, omega arith, e))
-    (λ e.
-    let counted = rw e at l in
-    let rest = some-counted g n (omega arith) in
-    (rest .0, omega (arith, rest .1), rest .2))
-
-two-counted : (g : ℕ → Bool) (n v : ℕ) → 1 < count g n → (u : ℕ) × (u ≡ v → ⊥) × (g u ≡ true)
-two-counted g zero v l = absurd (omega arith)
-two-counted g (suc n) v l =
-    byBool (g n)
-    (λ e.
-    let counted = rw e at l in
-    byBool (eqb n v)
-    (λ same.
-    let here = eqb-true n v same in
-    let rest = some-counted g n (omega arith) in
-    (rest .0, λ q. omega (arith, rest .1), rest .2))
-    (λ other. (n, eqb-false n v other, e)))
-    (λ e. let counted = rw e at l in two-counted g n v (omega arith))
 
 -- a set with more has a variable besides v, so no one pin carries all of it
 pub one-besides : (set v : ℕ) → oneAtMost set ≡ false → (u : ℕ) × (u ≡ v → ⊥) × (has set u ≡ true)

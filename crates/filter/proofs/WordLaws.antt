@@ -1,6 +1,5 @@
 -- Words: one turn of the walk, rows that look the same, and the sixteen in a list. Assumes nothing.
 use mathlib.Core.Path.{_≡_, refl, _∙_}
-use mathlib.Core.Bool.{Bool, true}
 use mathlib.Core.List.{List, [], _∷_}
 use Prim.Native.Nat.{ℕ, zero, suc, _+_, _-_, _%_, _<_, _≤_}
 use native.Mathlib.Nat.{not-suc-le-zero}
@@ -8,17 +7,10 @@ use native.Mathlib.Numerals.{add-one}
 use native.Mathlib.Omega.{arith}
 use lib.Dec.{eqb}
 use lib.Bits.{bitAnd, bitOr, and-zero-l}
-use lib.ListN.{length, getD, length-append, List·getD-append}
-use lib.ListN.{set as put}
+use lib.ListN.{length, getD, length-append, List·getD-append, set as put}
 use lib.Seq.{getD-at}
 use borrow.Author.Tests.{eq-eqb, ne-eqb, eqb-true, eqb-false}
-use Rattle.bits.specs.Bits.{has, split}
-use Rattle.bits.specs.Tests.{below}
 use Rattle.bits.proofs.SearchLaws.{byBool}
-use Rattle.bits.proofs.TestLaws.{below-at}
-use Rattle.bits.proofs.ListLaws.{alike, alike-eq}
-use Rattle.bits.proofs.BitLaws.{has-low}
-use Rattle.subsets.specs.Masks.{variablesFrom, variablesIn, pinsOfMask, keyOf}
 use Rattle.wiring.specs.Wire.{truth}
 use Rattle.filter.specs.Choices.{filledUp}
 use Rattle.filter.specs.Words.{next, push, wordFrom, placeOf, restOf, wordOf, wordsTo, wordsOf}
@@ -99,25 +91,3 @@ module _ (t : List ℕ) (within set : ℕ) where
   pub words-room : (a : ℕ) → a ≤ 16 → length (filledUp 16 (wordsTo t within set a)) ≡ 16
   words-room a l =
       let sized = length-words a in filled-length 16 (wordsTo t within set a) (omega arith)
-
--- a set's pins depend on its nine low bits
-variables-low : (count v m : ℕ) → v + count ≤ 9
-    → variablesFrom count v m ≡ variablesFrom count v (m % 512)
-unfolding variablesFrom
-variables-low zero v m l = refl
-variables-low (suc count) v m l =
-    rw (has-low 9 m v (omega arith), variables-low count (suc v) m (omega arith))
-
-abbrev split-right : ℕ → Bool
-split-right m = alike (split 4 (keyOf m)) (pinsOfMask m)
-
-all-split : below split-right 512 ≡ true
-unfolding has variablesFrom variablesIn pinsOfMask keyOf
-all-split = refl
-
--- the pins of a set, as the four fields of its key
-pub key-pins : (m : ℕ) → split 4 (keyOf m) ≡ pinsOfMask m
-unfolding variablesIn pinsOfMask keyOf
-key-pins m =
-    rw (variables-low 9 0 m (omega arith))
-    (alike-eq _ _ (below-at split-right 512 all-split (m % 512) (omega arith)))

@@ -1,7 +1,7 @@
 -- From what the search found to what the matcher promises. Assumes nothing.
-use mathlib.Core.Path.{_≡_, refl, sym, ap, _∙_}
+use mathlib.Core.Path.{_≡_, refl, _∙_}
 use mathlib.Core.List.{List, []}
-use Prim.Native.Nat.{ℕ, _<_, _≤_}
+use Prim.Native.Nat.{ℕ, _<_}
 use native.Mathlib.Omega.{arith}
 use lib.ListN.{length}
 use Rattle.block.specs.declared.Parts.{Parts}
@@ -9,18 +9,16 @@ use Rattle.block.specs.declared.Refusal.{Refusal}
 use Rattle.block.specs.declared.Refusal.the-variants.{R4}
 use Rattle.block.specs.declared.Written.{Written}
 use Rattle.block.specs.declared.Written.the-variants.{Refused}
-use Rattle.block.specs.Block.{Block}
 use Rattle.block.specs.Code.{blockOf}
 use Rattle.block.specs.Refusal.{numberOf}
-use Rattle.block.specs.Answer.{Writes}
 use Rattle.block.proofs.AnswerLaws.{writes-refused}
 use Rattle.block.proofs.RefusalLaws.{at-refusal}
-use Rattle.codec.specs.Ten.{packOf}
 use Rattle.codec.specs.Answers.{Packs}
 use Rattle.codec.specs.Check.{packRefusal}
 use Rattle.subsets.specs.Masks.{Small}
 use Rattle.round.proofs.PackedLaws.{none-of-acceptable}
 use Rattle.contents.specs.Contents.{blockWith, noContents}
+use Rattle.contents.proofs.ChoiceLaws.{choice-small, pieces}
 use Rattle.matcher.specs.declared.Place.{Place}
 use Rattle.matcher.specs.declared.Found.{Found}
 use Rattle.matcher.specs.declared.Found.the-variants.{At, Nothing}
@@ -28,7 +26,6 @@ use Rattle.matcher.specs.Match.{matchRefusal, Matched, refused, unmatche
 use Rattle.matcher.specs.Search.{FirstPlace, Searched}
 use Rattle.matcher.proofs.HeadLaws.{well-formed}
 use Rattle.matcher.proofs.UniqueMatch.{acceptable}
-use Rattle.matcher.proofs.ChoiceLaws.{choice-small, Pieces, pieces}
 use Rattle.matcher.proofs.FirstLaws.{first-block}
 use Rattle.matcher.proofs.AnyLaws.{no-block}
 

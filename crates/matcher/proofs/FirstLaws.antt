@@ -1,38 +1,28 @@
--- The least contents on the first wiring that fits are the first block in byte order; and where no
--- wiring fits, no block at all computes the table. Assumes nothing.
+-- The least contents on the first wiring that fits are the first block in byte order. Assumes nothing.
 use mathlib.Core.Path.{_≡_, refl, sym, ap, ap₂, _∙_}
-use mathlib.Core.Bool.{Bool, true, false, not, _&&_, _||_}
+use mathlib.Core.Bool.{true}
 use mathlib.Core.List.{List, [], _∷_, _++_}
 use mathlib.Core.Logic.{⊎-elim}
-use Prim.Native.Nat.{ℕ, zero, suc, _+_, _*_, _/_, _%_, _^_, _<_, _≤_}
+use Prim.Native.Nat.{ℕ, _+_, _*_, _/_, _%_, _^_, _<_, _≤_}
 use native.Mathlib.Nat.{eq-or-lt-of-le}
 use native.Mathlib.Omega.{arith}
-use lib.Dec.{eqb, ltb, leb}
-use lib.ListN.{length}
-use lib.Arith.{digits-div, digits-mod}
-use borrow.Author.Tests.{leb-true, le-leb, ltb-true, lt-ltb}
-use Rattle.bits.specs.Bits.{has, ofBits, split, joined}
-use Rattle.bits.specs.Tests.{every}
-use Rattle.bits.proofs.TestLaws.{both-left, both-right}
+use Rattle.bits.specs.Bits.{has, split}
+use Rattle.bits.proofs.TestLaws.{both-left}
 use Rattle.bits.proofs.ListLaws.{every-append, every-before, every-after}
-use Rattle.block.specs.Block.{Lut, Block, Device, pinsOf}
-use Rattle.block.specs.Tidy.{Tidy, fieldFits, fieldsFit, ordered, rowsQuiet}
-use Rattle.block.specs.Value.{Computes}
+use Rattle.block.specs.Block.{Block, Device}
+use Rattle.block.specs.Tidy.{fieldFits, fieldsFit, rowsQuiet}
 use Rattle.block.specs.Kind.{carries}
-use Rattle.block.proofs.TidyLaws.{fits-lt}
-use Rattle.subsets.specs.Masks.{pinsOfMask, keyOf, Small}
-use Rattle.subsets.proofs.PinLaws.{pins-tidy, carries-mask}
+use Rattle.subsets.specs.Masks.{pinsOfMask, keyOf}
+use Rattle.rows.proofs.KeyLaws.{keyOf-lt, key-pins}
 use Rattle.wiring.specs.Fits.{Fits}
 use Rattle.wiring.proofs.FitsLaws.{fits-of-block, fits-ext}
 use Rattle.contents.specs.Contents.{isChoice, isWiring, blockWith, noContents, Fills, LeastFilling}
-use Rattle.codec.specs.Order.{comesBefore}
-use Rattle.round.specs.Bytes.{Acceptable}
-use Rattle.matcher.specs.Match.{Realises, NoBlock, TidyMatch, First}
-use Rattle.matcher.proofs.NumberLaws.{pinsNumber, tablesNumber, blockNumber, not-before}
-use Rattle.matcher.proofs.ChoiceLaws.{choice-of, choice-small, choice-fits, key-pins}
-use Rattle.matcher.proofs.ChoiceLaws.{Pieces, pieces, wiring-of}
+use Rattle.contents.proofs.ChoiceLaws.{choice-of, choice-carries, pieces, wiring-of}
+use Rattle.contents.proofs.ChoiceLaws.{direct-lt, f-tidy, g-tidy, wired}
+use Rattle.contents.proofs.LeastLaws.{block-with}
+use Rattle.matcher.specs.Match.{TidyMatch, First}
 use Rattle.matcher.specs.Search.{wiringNumber, FirstWiring}
-use Rattle.matcher.proofs.WiringLaws.{keyOf-lt}
+use Rattle.matcher.proofs.NumberLaws.{pinsNumber, tablesNumber, blockNumber, not-before}
 
 -- contents as a number, and back
 tables-number : (x : ℕ) → tablesNumber (x / 2 ^ 24) (x / 2 ^ 8 % 2 ^ 16) (x % 2 ^ 8) ≡ x
@@ -41,38 +31,32 @@ tables-number x = omega arith
 module _ (n f g d : ℕ) (w : isWiring n f g d ≡ true) where
   pub block-device : (x : ℕ) → x < noContents → Device (blockWith f g d x)
   block-device x l =
-      let p = pieces n f g d w in
-      let tidy-f = pins-tidy f (choice-small n f (p .within) (p .f-choice)) in
-      let tidy-g = pins-tidy g (choice-small n g (p .within) (p .g-choice)) in
       record {
-        in-f = record { four = tidy-f .four; rows-fit = omega arith };
-        in-g = record { four = tidy-g .four; rows-fit = omega arith };
+        in-f = record { four = f-tidy n f g d w .four; rows-fit = omega arith };
+        in-g = record { four = g-tidy n f g d w .four; rows-fit = omega arith };
         h-fits = omega arith;
       }
 
   pub block-fields : (x : ℕ) → fieldsFit n (blockWith f g d x) ≡ true
   unfolding fieldsFit
   block-fields x =
-      let p = pieces n f g d w in
+      let pins = wired n f g d w in
       rw (
         every-append (fieldFits n) (pinsOfMask f) (pinsOfMask g ++ (d ∷ [])),
         every-append (fieldFits n) (pinsOfMask g) (d ∷ []),
-        choice-fits n f (p .within) (p .f-choice),
-        choice-fits n g (p .within) (p .g-choice),
-        p .direct,
+        pins .f-fit,
+        pins .g-fit,
+        pins .direct-fits,
       )
 
   pub block-match : (t : List ℕ) (x : ℕ) → Fills n t f g d x → TidyMatch n t (blockWith f g d x)
   block-match t x fills =
-      let p = pieces n f g d w in
-      let tidy-f = pins-tidy f (choice-small n f (p .within) (p .f-choice)) in
-      let tidy-g = pins-tidy g (choice-small n g (p .within) (p .g-choice)) in
       record {
         tidy =
             record {
               fields = block-fields x;
-              f-order = tidy-f .order;
-              g-order = tidy-g .order;
+              f-order = f-tidy n f g d w .order;
+              g-order = g-tidy n f g d w .order;
               rows = fills .quiet;
             };
         realises =
@@ -95,8 +79,7 @@ record SetsOf (n : ℕ) (t : List ℕ) (c : Block) : Type 0 where
 carried : (n set : ℕ) (pins : List ℕ) → n ≤ 9 → isChoice n set ≡ true → pinsOfMask set ≡ pins
     → (v : ℕ) → v < n → carries pins v ≡ has set v
 carried n set pins within choice same v l =
-    ap (λ (s : List ℕ). carries s v) (sym same)
-    ∙ carries-mask set (choice-small n set within choice) v (omega arith)
+    ap (λ (s : List ℕ). carries s v) (sym same) ∙ choice-carries n set within choice v l
 
 sets-of : (n : ℕ) (t : List ℕ) (c : Block) → n ≤ 9 → TidyMatch n t c → SetsOf n t c
 unfolding fieldsFit
@@ -130,10 +113,8 @@ sets-of n t c within m =
     }
 
 -- equal keys are those of equal pins
-same-pins : (set other : ℕ) → Small set → Small other → keyOf set ≡ keyOf other
-    → pinsOfMask set ≡ pinsOfMask other
-same-pins set other small small' e =
-    sym (key-pins set small) ∙ ap (split 4) e ∙ key-pins other small'
+same-pins : (set other : ℕ) → keyOf set ≡ keyOf other → pinsOfMask set ≡ pinsOfMask other
+same-pins set other e = sym (key-pins set) ∙ ap (split 4) e ∙ key-pins other
 
 pins-wiring : (f g d : ℕ) → pinsNumber (pinsOfMask f) (pinsOfMask g) d ≡ wiringNumber f g d
 unfolding keyOf
@@ -152,13 +133,9 @@ module _ (n : ℕ) (t : List ℕ) (f g d x : ℕ) (w : isWiring n f g d ≡ true
       let y = tablesNumber (c .f .rows) (c .g .rows) (c .h) in
       let small : y < noContents =
       omega (arith, device .in-f .rows-fit, device .in-g .rows-fit, device .h-fits) in
-      let rows-f : y / 2 ^ 24 ≡ c .f .rows =
-      omega (arith, device .in-f .rows-fit, device .in-g .rows-fit, device .h-fits) in
-      let rows-g : y / 2 ^ 8 % 2 ^ 16 ≡ c .g .rows =
-      omega (arith, device .in-f .rows-fit, device .in-g .rows-fit, device .h-fits) in
-      let rows-h : y % 2 ^ 8 ≡ c .h =
-      omega (arith, device .in-f .rows-fit, device .in-g .rows-fit, device .h-fits) in
-      let same : blockWith f g d y ≡ c = rw (ef, eg, ed, rows-f, rows-g, rows-h) in
+      let same : blockWith f g d y ≡ c =
+      block-with (c .f .rows) (c .g .rows) (c .h) (device .in-g .rows-fit) (device .h-fits) f g d
+      ∙ rw (ef, eg, ed) in
       least .least y
       (record {
         small = small;
@@ -170,7 +147,6 @@ module _ (n : ℕ) (t : List ℕ) (f g d x : ℕ) (w : isWiring n f g d ≡ true
   no-less c m =
       let p = pieces n f g d w in
       let s = sets-of n t c (p .within) m in
-      let q = pieces n (s .p) (s .q) (c .direct) (s .wiring) in
       let mine : pinsNumber (pinsOfMask f) (pinsOfMask g) d ≡ wiringNumber f g d = pins-wiring f g d in
       let other : pinsNumber (c .f .pins) (c .g .pins) (c .direct) ≡ wiringNumber (s .p) (s .q) (c .direct) =
       ap₂ (λ (a b : List ℕ). pinsNumber a b (c .direct)) (sym (s .f-pins)) (sym (s .g-pins))
@@ -180,15 +156,10 @@ module _ (n : ℕ) (t : List ℕ) (f g d x : ℕ) (w : isWiring n f g d ≡ true
       (λ e.
       let keys =
       same-keys (keyOf f) (keyOf g) d (keyOf (s .p)) (keyOf (s .q)) (c .direct) (keyOf-lt g)
-      (fits-lt n d (p .within) (p .direct)) (keyOf-lt (s .q)) (fits-lt n (c .direct) (p .within) (q .direct)) e in
-      let f-pins =
-      same-pins f (s .p) (choice-small n f (p .within) (p .f-choice))
-      (choice-small n (s .p) (p .within) (q .f-choice)) (keys .0) in
-      let g-pins =
-      same-pins g (s .q) (choice-small n g (p .within) (p .g-choice))
-      (choice-small n (s .q) (p .within) (q .g-choice)) (keys .1) in
+      (direct-lt n f g d w) (keyOf-lt (s .q)) (direct-lt n (s .p) (s .q) (c .direct) (s .wiring)) e in
       let less =
-      same-wiring c (m .realises .device) m (f-pins ∙ s .f-pins) (g-pins ∙ s .g-pins) (keys .2) in
+      same-wiring c (m .realises .device) m (same-pins f (s .p) (keys .0) ∙ s .f-pins)
+      (same-pins g (s .q) (keys .1) ∙ s .g-pins) (keys .2) in
       omega arith)
       (λ l. omega arith) (eq-or-lt-of-le (first (s .p) (s .q) (c .direct) (s .wiring) (s .fits)))
 

@@ -1,9 +1,9 @@
 -- A function that depends on at most five of its variables is never answered with 4; so with at most
 -- five inputs none is. Assumes nothing.
-use mathlib.Core.Path.{_≡_, sym, ap, _∙_}
+use mathlib.Core.Path.{_≡_, sym, _∙_}
 use mathlib.Core.Bool.{Bool, true, false, not}
 use mathlib.Core.List.{List, []}
-use Prim.Native.Nat.{ℕ, zero, suc, _≤_}
+use Prim.Native.Nat.{ℕ, _≤_}
 use native.Mathlib.Omega.{arith}
 use lib.Dec.{eqb}
 use lib.ListN.{length}
@@ -11,8 +11,8 @@ use Rattle.bits.specs.Tests.{pick, count}
 use Rattle.block.specs.declared.Written.{Written}
 use Rattle.block.specs.Table.{tableBytes, padding}
 use Rattle.block.specs.Refusal.{tooManyInputs}
-use Rattle.block.specs.Answer.{Answer, writtenOf, answered}
-use Rattle.block.proofs.AnswerLaws.{answered-number}
+use Rattle.block.specs.Answer.{writtenOf}
+use Rattle.block.proofs.AnswerLaws.{written-number}
 use Rattle.codec.specs.Ten.{packOf}
 use Rattle.codec.specs.Check.{noRoom}
 use Rattle.wiring.specs.Fits.{dependsOn}
@@ -39,15 +39,12 @@ module _ (n : ℕ) (t before after : List ℕ) (r : Written) where
       → writtenOf r .number ≡ 4 → ⊥
   five-never-4 few (refused some w) e =
       head-other n t (length before)
-      (sym (answered-number (matchRefusal n t (length before)) 0 0)
-      ∙ ap (λ (a : Answer ℕ). a .number) (sym (w .told)) ∙ e)
+      (sym (written-number (matchRefusal n t (length before)) [] before after r w) ∙ e)
   five-never-4 few (unmatched none never w) e =
       let found = five n t (well-formed n t (length before) none .within) few in
       never (found .0) (record { device = found .1; fields = found .2; computes = found .3 })
   five-never-4 few (matched none b p w) e =
-      let z : _≡_ {A = ℕ} 0 4 =
-      sym (answered-number 0 0 (length (packOf b))) ∙ ap (λ (a : Answer ℕ). a .number) (sym (w .told)) ∙ e in
-      omega arith
+      let z = sym (written-number 0 (packOf b) before after r w) ∙ e in omega arith
 
   -- n at most 5
   pub few-inputs-never-4 : n ≤ 5 → Matched n t before after r → writtenOf r .number ≡ 4 → ⊥

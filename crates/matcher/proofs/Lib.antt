@@ -2,7 +2,6 @@
 pub mod HeadLaws
 pub mod UniqueMatch
 pub mod NumberLaws
-pub mod ChoiceLaws
 pub mod PlaceLaws
 pub mod WiringLaws
 pub mod FirstLaws
@@ -11,4 +10,5 @@ pub mod TrialLaws
 pub mod StandLaws
 pub mod AnyLaws
 pub mod EntryLaws
+pub mod BytesLaws
 pub mod FiveInputs

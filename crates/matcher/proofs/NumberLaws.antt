@@ -1,18 +1,17 @@
 -- The number that a block's ten bytes make: its wiring above its contents. Assumes nothing.
-use mathlib.Core.Path.{_≡_, refl, sym, ap, _∙_}
+use mathlib.Core.Path.{_≡_, refl, ap, _∙_}
 use mathlib.Core.Bool.{Bool, true, false}
 use mathlib.Core.List.{List, [], _∷_, _++_}
-use Prim.Native.Nat.{ℕ, zero, suc, _+_, _*_, _%_, _^_, _<_, _≤_}
+use Prim.Native.Nat.{ℕ, _+_, _*_, _%_, _^_, _≤_}
 use native.Mathlib.Nat.{mod-eq-of-lt}
 use native.Mathlib.Omega.{arith}
-use lib.ListN.{length}
 use borrow.Author.Tests.{le-ltb}
 use Rattle.bits.specs.Bits.{joined, split, bytesOf}
+use Rattle.bits.proofs.FieldLaws.{joined-split, joined-append, joined-four, four-of}
 use Rattle.block.specs.Block.{Block, Device}
 use Rattle.codec.specs.Ten.{fieldsOf, packOf}
 use Rattle.codec.specs.Order.{comesBefore}
 use Rattle.round.specs.Bytes.{Acceptable}
-use Rattle.round.proofs.FieldTrip.{joined-split, four-of}
 use Rattle.round.proofs.OrderLaws.{bytesNumber, comesBefore-number}
 
 -- the nine pin fields as one number
@@ -27,13 +26,6 @@ abbrev pub blockNumber : Block → ℕ
 blockNumber b =
     pinsNumber (b .f .pins) (b .g .pins) (b .direct) * 2 ^ 40
     + tablesNumber (b .f .rows) (b .g .rows) (b .h)
-
-joined-append : (high : ℕ) (xs ys : List ℕ) → joined high (xs ++ ys) ≡ joined (joined high xs) ys
-joined-append high [] ys = refl
-joined-append high (x ∷ xs) ys = joined-append (high * 16 + x) xs ys
-
-joined-four : (high : ℕ) (l : List ℕ) → length l ≡ 4 → joined high l ≡ high * 65536 + joined 0 l
-joined-four high l n = rw (four-of l n) (omega arith)
 
 -- fields come in pairs
 abbrev paired : List ℕ → Bool

@@ -1,17 +1,16 @@
 -- Where the search stands: nothing is found, and no wiring that it passed fits. Each step keeps this,
 -- and at its end it decides. Assumes nothing.
-use mathlib.Core.Path.{_≡_, refl, sym, ap, _∙_}
-use mathlib.Core.Bool.{Bool, true, false, _&&_, _||_}
+use mathlib.Core.Path.{_≡_, refl, sym, _∙_}
+use mathlib.Core.Bool.{true, false, _||_}
 use mathlib.Core.List.{List}
-use Prim.Native.Nat.{ℕ, _+_, _^_, _<_, _≤_}
+use Prim.Native.Nat.{ℕ, _+_, _<_, _≤_}
 use native.Mathlib.Omega.{arith}
-use lib.Dec.{eqb, ltb, leb}
-use lib.ListN.{length, getD}
-use borrow.Author.Tests.{eqb-true, eqb-false, lt-ltb, le-leb}
+use lib.Dec.{eqb}
+use lib.ListN.{getD}
+use borrow.Author.Tests.{eqb-false}
 use Rattle.bits.specs.Bits.{has}
 use Rattle.bits.proofs.TestLaws.{either-false}
 use Rattle.bits.proofs.SearchLaws.{byBool}
-use Rattle.subsets.specs.Masks.{variablesIn}
 use Rattle.wiring.specs.Fits.{dependsOn}
 use Rattle.filter.specs.Support.{supportOf}
 use Rattle.filter.specs.Choices.{Listed, choicesOf}
@@ -19,12 +18,12 @@ use Rattle.filter.specs.Words.{wordsOf}
 use Rattle.filter.proofs.SupportLaws.{support-has}
 use Rattle.filter.proofs.ListedLaws.{listed}
 use Rattle.contents.specs.Contents.{isChoice, isWiring, noContents, LeastFilling}
+use Rattle.contents.proofs.ChoiceLaws.{is-choice, wiring-of}
 use Rattle.matcher.specs.declared.Place.{Place}
 use Rattle.matcher.specs.declared.Found.{Found}
-use Rattle.matcher.specs.declared.Found.the-variants.{At, Nothing}
-use Rattle.matcher.specs.Search.{directOf, directs, Uncovered, Weighable, FirstPlace, NoWiring, Searched}
-use Rattle.matcher.proofs.ChoiceLaws.{wiring-of}
-use Rattle.matcher.proofs.PlaceLaws.{place, FitsAt, NoneBefore, direct-fits}
+use Rattle.matcher.specs.declared.Found.the-variants.{Nothing}
+use Rattle.matcher.specs.Search.{directOf, directs, Uncovered, Weighable, FirstPlace, Searched}
+use Rattle.matcher.proofs.PlaceLaws.{place, NoneBefore, direct-fits}
 use Rattle.matcher.proofs.PlaceLaws.{none-start, none-next, none-pair, none-choices, none-set}
 use Rattle.matcher.proofs.PlaceLaws.{none-exchanged, never-untried}
 use Rattle.matcher.proofs.WeighLaws.{never-fits, never-covered}
@@ -73,12 +72,7 @@ module _ (n : ℕ) (t : List ℕ) (within : ℕ) (sets : List ℕ) (many pins : 
     few = rw (← s .pins-are) lk
 
     choice-at : (m : ℕ) → m < many → isChoice n (getD sets m 0) ≡ true
-    unfolding isChoice
-    choice-at m l =
-        rw (
-          lt-ltb (getD sets m 0) (2 ^ n) (s .choices .below-n m l),
-          le-leb (length (variablesIn (getD sets m 0))) 4 (s .choices .small m l .four),
-        )
+    choice-at m l = is-choice n (getD sets m 0) (s .choices .below-n m l) (s .choices .small m l .four)
 
     pub wiring-at : isWiring n (getD sets i 0) (getD sets j 0) (directOf n k) ≡ true
     wiring-at =

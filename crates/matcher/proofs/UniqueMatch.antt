@@ -1,7 +1,7 @@
 -- Two results that the matcher's promise allows are equal: the number, the length in use and every
 -- byte of the buffer. Assumes nothing.
-use mathlib.Core.Path.{_≡_, refl, sym, ap, ap₂, _∙_}
-use mathlib.Core.Bool.{Bool, true, false, _&&_, _||_}
+use mathlib.Core.Path.{_≡_, refl, sym, ap₂, _∙_}
+use mathlib.Core.Bool.{false, _&&_}
 use mathlib.Core.List.{List, [], _∷_}
 use Prim.Native.Nat.{ℕ}
 use native.Mathlib.Nat.{suc-inj}
@@ -12,13 +12,12 @@ use borrow.Author.Tests.{ltb-false, eq-eqb}
 use Rattle.bits.proofs.TestLaws.{either-false}
 use Rattle.block.specs.declared.Written.{Written}
 use Rattle.block.specs.Block.{Block}
-use Rattle.block.specs.Answer.{Writes}
 use Rattle.block.proofs.AnswerLaws.{written-unique}
 use Rattle.codec.specs.Ten.{packOf}
 use Rattle.codec.specs.Order.{before, comesBefore}
 use Rattle.round.specs.Bytes.{Acceptable}
 use Rattle.round.proofs.PackedLaws.{packed-ten}
-use Rattle.matcher.specs.Match.{NoBlock, TidyMatch, First, matchRefusal, Matched}
+use Rattle.matcher.specs.Match.{TidyMatch, First, matchRefusal, Matched}
 use Rattle.matcher.specs.Match.{refused, unmatched, matched}
 use Rattle.matcher.proofs.HeadLaws.{well-formed}
 

@@ -1,125 +1,75 @@
 -- A wiring that does not fit has no contents, and one without contents does not fit. The tests that
 -- only reject. Assumes nothing.
-use mathlib.Core.Path.{_≡_, refl, sym, ap, ap₂, _∙_}
-use mathlib.Core.Bool.{Bool, true, false, _&&_, _||_, or-assoc}
-use mathlib.Core.List.{List, [], _∷_}
-use Prim.Native.Nat.{ℕ, _+_, _*_, _/_, _%_, _^_, _<_, _≤_, min}
+use mathlib.Core.Path.{_≡_, sym, ap, ap₂, _∙_}
+use mathlib.Core.Bool.{Bool, true, _||_, or-assoc}
+use mathlib.Core.List.{List}
+use Prim.Native.Nat.{ℕ, _^_, _<_, _≤_}
 use native.Mathlib.Omega.{arith}
-use native.Mathlib.Nat.{min-eq-left}
-use lib.Dec.{eqb, ltb}
+use lib.Dec.{eqb}
 use lib.Bits.{bitAnd, bitOr, and-le-l}
-use lib.ListN.{length}
 use lib.Pow.{pow-mono}
-use borrow.Author.Tests.{eqb-true, eq-eqb, ltb-true, ltb-false}
-use Rattle.bits.specs.Bits.{has, ofBits}
-use Rattle.bits.specs.Tests.{pick}
-use Rattle.bits.proofs.TestLaws.{or-cases}
-use Rattle.bits.proofs.SearchLaws.{byBool, clash}
-use Rattle.bits.proofs.BitLaws.{has-and, has-or, has-pow, has-high, has-of-0, has-ofBits, ofBits-lt, same-number}
-use Rattle.block.specs.Tidy.{fieldFits, rowsQuiet}
-use Rattle.block.specs.Value.{Computes}
+use borrow.Author.Tests.{eqb-true}
+use Rattle.bits.specs.Bits.{has}
+use Rattle.bits.proofs.SearchLaws.{byBool}
+use Rattle.bits.proofs.BitLaws.{has-and, has-or, has-pow, same-number}
+use Rattle.block.specs.Tidy.{rowsQuiet}
 use Rattle.block.specs.Kind.{carries}
 use Rattle.subsets.specs.Masks.{pinsOfMask}
-use Rattle.subsets.proofs.PinLaws.{pins-tidy, carries-mask}
-use Rattle.wiring.specs.Wire.{Wired, blockOn}
 use Rattle.wiring.specs.Fits.{Fits, dependsOn}
 use Rattle.wiring.proofs.FitsLaws.{fits-of-block, fits-ext, fits-covers}
-use Rattle.wiring.proofs.FillLaws.{Filled, block-of-fits, filled-quiet}
+use Rattle.wiring.proofs.FillLaws.{block-of-fits, filled-quiet}
 use Rattle.filter.specs.Support.{supportOf}
-use Rattle.contents.specs.Contents.{isChoice, isWiring, wiringOf, blockWith, noContents, Fills, LeastFilling}
+use Rattle.filter.proofs.SupportLaws.{support-lt, support-on}
+use Rattle.contents.specs.Contents.{isWiring, wiringOf, blockWith, noContents, LeastFilling}
+use Rattle.contents.proofs.ChoiceLaws.{f-carries, g-carries, wired}
+use Rattle.contents.proofs.LeastLaws.{block-with, none-fill}
 use Rattle.matcher.specs.Search.{directOf, directSet, directs, Uncovered}
 use Rattle.matcher.proofs.NumberLaws.{tablesNumber}
-use Rattle.matcher.proofs.ChoiceLaws.{choice-small, choice-fits, Pieces, pieces}
 use Rattle.matcher.proofs.FirstLaws.{block-fields}
 use Rattle.matcher.proofs.PlaceLaws.{direct-fits}
 
 module _ (n : ℕ) (t : List ℕ) (f g d : ℕ) (w : isWiring n f g d ≡ true) where
-  same-f : (v : ℕ) → v < n → carries (pinsOfMask f) v ≡ has f v
-  same-f v l =
-      let p = pieces n f g d w in
-      carries-mask f (choice-small n f (p .within) (p .f-choice)) v (omega (arith, p .within))
-
-  same-g : (v : ℕ) → v < n → carries (pinsOfMask g) v ≡ has g v
-  same-g v l =
-      let p = pieces n f g d w in
-      carries-mask g (choice-small n g (p .within) (p .g-choice)) v (omega (arith, p .within))
-
   -- without a fit there are no contents
   pub rejected : (Fits n t (has f) (has g) d → ⊥) → LeastFilling n t f g d noContents
   rejected never =
-      record {
-        most = omega arith;
-        fills = λ l. absurd (omega arith);
-        least =
-            λ y fills.
-            absurd
-            (never
-            (fits-ext n t (carries (pinsOfMask f)) (carries (pinsOfMask g)) (has f) (has g) d same-f same-g
-            (fits-of-block n t (blockWith f g d y) (block-fields n f g d w y) (fills .computes))));
-      }
-
-  wired : Wired n (wiringOf f g d)
-  wired =
-      let p = pieces n f g d w in
-      record {
-        within = p .within;
-        f-four = pins-tidy f (choice-small n f (p .within) (p .f-choice)) .four;
-        g-four = pins-tidy g (choice-small n g (p .within) (p .g-choice)) .four;
-        f-fit = choice-fits n f (p .within) (p .f-choice);
-        g-fit = choice-fits n g (p .within) (p .g-choice);
-        direct-fits = p .direct;
-      }
+      none-fill n t f g d
+      (λ y fills.
+      never
+      (fits-ext n t (carries (pinsOfMask f)) (carries (pinsOfMask g)) (has f) (has g) d
+      (f-carries n f g d w) (g-carries n f g d w)
+      (fits-of-block n t (blockWith f g d y) (block-fields n f g d w y) (fills .computes))))
 
   -- without contents there is no fit
   pub never-fits : (x : ℕ) → LeastFilling n t f g d x → noContents ≤ x → Fits n t (has f) (has g) d → ⊥
   never-fits x least l fits =
       let sees =
       fits-ext n t (has f) (has g) (carries (pinsOfMask f)) (carries (pinsOfMask g)) d
-      (λ v m. sym (same-f v m)) (λ v m. sym (same-g v m)) fits in
-      let made = block-of-fits n t (wiringOf f g d) wired sees in
+      (λ v m. sym (f-carries n f g d w v m)) (λ v m. sym (g-carries n f g d w v m)) fits in
+      let pins = wired n f g d w in
+      let made = block-of-fits n t (wiringOf f g d) pins sees in
       let y = tablesNumber (made .f) (made .g) (made .h) in
       let lf = made .f-lt in
       let lg = made .g-lt in
       let lh = made .h-lt in
       let small : y < noContents = omega arith in
-      let rows-f : y / 2 ^ 24 ≡ made .f = omega arith in
-      let rows-g : y / 2 ^ 8 % 2 ^ 16 ≡ made .g = omega arith in
-      let rows-h : y % 2 ^ 8 ≡ made .h = omega arith in
-      let same : blockWith f g d y ≡ blockOn (wiringOf f g d) (made .f) (made .g) (made .h) =
-      rw (rows-f, rows-g, rows-h) in
+      let same = block-with (made .f) (made .g) (made .h) lg lh f g d in
       let most =
       least .least y
       (record {
         small = small;
-        quiet = ap rowsQuiet same ∙ filled-quiet n t (wiringOf f g d) wired made;
+        quiet = ap rowsQuiet same ∙ filled-quiet n t (wiringOf f g d) pins made;
         computes = rw same (made .computes);
       }) in
       omega arith
 
 -- the variables that the table depends on
 module _ (n : ℕ) (t : List ℕ) (within : n ≤ 9) where
-  unfolded : supportOf n t ≡ ofBits n (dependsOn n t)
-  unfolding supportOf
-  unfolded = rw (min-eq-left within)
-
-  pub support-has : (v : ℕ) → v < n → has (supportOf n t) v ≡ dependsOn n t v
-  support-has v l = rw unfolded (has-ofBits n (dependsOn n t) v l)
-
-  pub support-lt : supportOf n t < 2 ^ n
-  support-lt = rw unfolded (ofBits-lt n (dependsOn n t))
-
-  pub support-on : (v : ℕ) → has (supportOf n t) v ≡ true → (v < n) × (dependsOn n t v ≡ true)
-  support-on v h =
-      byBool (ltb v n)
-      (λ e. (ltb-true v n e, sym (support-has v (ltb-true v n e)) ∙ h))
-      (λ e. clash h (has-high n (supportOf n t) v support-lt (ltb-false v n e)))
-
   -- two variables that neither set has: no choice of the direct pin covers both
   pub never-covered : (f g k : ℕ) → k < directs n → Uncovered (supportOf n t) f g
       → Fits n t (has f) (has g) (directOf n k) → ⊥
   never-covered f g k l missing fits =
       let u = missing (directOf n k) in
-      let on = support-on (u .0) (u .2) in
+      let on = support-on n t within (u .0) (u .2) in
       let told = fits-covers n t (has f) (has g) (directOf n k) fits (direct-fits n k l) (u .0) (on .1) in
       u .1 (eqb-true (u .0) (directOf n k) (rw (u .3, u .4) at told))
 
@@ -142,7 +92,9 @@ module _ (n : ℕ) (t : List ℕ) (within : n ≤ 9) where
       (λ v m.
       has-and s cover v
       ∙ byBool (has s v)
-      (λ e. let on = support-on v e in rw (e, cover-has f g k v (on .0), covered v (on .1))) (λ e. rw e)))
+      (λ e.
+      let on = support-on n t within v e in rw (e, cover-has f g k v (on .0), covered v (on .1)))
+      (λ e. rw e)))
     where
       s : ℕ
       s = supportOf n t
@@ -151,7 +103,7 @@ module _ (n : ℕ) (t : List ℕ) (within : n ≤ 9) where
       cover = bitOr (bitOr f g) (directSet n k)
 
       nine : s < 2 ^ 9
-      nine = omega (arith, support-lt, pow-mono {i = n} {j = 9} within)
+      nine = omega (arith, support-lt n t within, pow-mono {i = n} {j = 9} within)
 
       covered : (v : ℕ) → dependsOn n t v ≡ true → ((has f v || has g v) || eqb v (directOf n k)) ≡ true
       covered v on =

@@ -1,32 +1,27 @@
 -- The wirings that the search looks at decide all of them: each that fits has one no later that fits
 -- and is looked at. Assumes nothing.
-use mathlib.Core.Path.{_≡_, refl, sym, ap, _∙_}
-use mathlib.Core.Bool.{Bool, true, false, _&&_, _||_}
+use mathlib.Core.Path.{_≡_, _∙_}
+use mathlib.Core.Bool.{true, _&&_}
 use mathlib.Core.List.{List}
-use Prim.Native.Nat.{ℕ, _+_, _*_, _^_, _<_, _≤_}
+use Prim.Native.Nat.{ℕ, _<_, _≤_}
 use native.Mathlib.Omega.{arith}
-use lib.Dec.{eqb, ltb, leb}
+use lib.Dec.{eqb, ltb}
 use lib.ListN.{getD}
-use borrow.Author.Tests.{eqb-true, eqb-false, ltb-true, ltb-false, lt-ltb, leb-true}
+use borrow.Author.Tests.{eqb-true, ltb-true, ltb-false, lt-ltb}
 use Rattle.bits.specs.Bits.{has}
-use Rattle.bits.specs.Tests.{pick}
-use Rattle.bits.proofs.TestLaws.{both-left, both-right, or-cases}
+use Rattle.bits.proofs.TestLaws.{both-left, or-cases}
 use Rattle.bits.proofs.SearchLaws.{byBool, clash}
 use Rattle.block.specs.Block.{isOpen}
 use Rattle.block.specs.Tidy.{fieldFits}
-use Rattle.subsets.specs.Masks.{keyOf, Small}
-use Rattle.rows.proofs.KeyLaws.{key-lt, key-all}
+use Rattle.subsets.specs.Masks.{keyOf}
+use Rattle.rows.proofs.KeyLaws.{keyOf-lt}
 use Rattle.wiring.specs.Fits.{Fits, dependsOn}
 use Rattle.wiring.proofs.FitsLaws.{fits-within}
 use Rattle.contents.specs.Contents.{isChoice, isWiring}
+use Rattle.contents.proofs.ChoiceLaws.{choice-lt, choice-small, pieces}
 use Rattle.filter.specs.Choices.{Listed}
-use Rattle.matcher.proofs.ChoiceLaws.{choice-small}
 use Rattle.matcher.specs.Search.{directOf, directs, wiringNumber, FirstWiring, NoWiring}
-use Rattle.matcher.proofs.PlaceLaws.{place, FitsAt, NoneBefore}
-use Rattle.matcher.proofs.PlaceLaws.{directs-most, directs-some}
-
-pub keyOf-lt : (set : ℕ) → keyOf set < 65536
-keyOf-lt set = rw (← key-all set) (key-lt set 9 (omega arith))
+use Rattle.matcher.proofs.PlaceLaws.{place, FitsAt, NoneBefore, directs-most, directs-some}
 
 -- the choice of the direct pin that does what d does, and is no later
 pub record Serving (n : ℕ) (t : List ℕ) (d : ℕ) : Type 0 where
@@ -81,16 +76,11 @@ module _ (n : ℕ) (t : List ℕ) (within : n ≤ 9) (support : ℕ) (sets : Lis
     (inside : (v : ℕ) → v < n → has support v ≡ dependsOn n t v) (listed : Listed n support sets many) where
   pub earlier : (p q d : ℕ) → isWiring n p q d ≡ true → Fits n t (has p) (has q) d
       → Earlier n t sets many p q d
-  unfolding isWiring isChoice
   earlier p q d wiring fits =
-      let pins = both-right (leb n 9) _ wiring in
-      let choice-p = both-left (isChoice n p) _ pins in
-      let rest = both-right (isChoice n p) _ pins in
-      let choice-q = both-left (isChoice n q) _ rest in
-      let direct = both-right (isChoice n q) (fieldFits n d) rest in
-      let f = found p choice-p in
-      let g = found q choice-q in
-      let e = serving n t d direct in
+      let told = pieces n p q d wiring in
+      let f = found p (told .f-choice) in
+      let g = found q (told .g-choice) in
+      let e = serving n t d (told .direct) in
       record {
         i = f .0;
         j = g .0;
@@ -100,7 +90,7 @@ module _ (n : ℕ) (t : List ℕ) (within : n ≤ 9) (support : ℕ) (sets : Lis
         k-lt = e .k-lt;
         fits =
             fits-within n t (has p) (has q) d fits (has (getD sets (f .0) 0)) (has (getD sets (g .0) 0))
-            (directOf n (e .k)) direct (λ v l on h. f .3 v h (inside v l ∙ on))
+            (directOf n (e .k)) (told .direct) (λ v l on h. f .3 v h (inside v l ∙ on))
             (λ v l on h. g .3 v h (inside v l ∙ on)) (e .serves);
         no-later = omega (arith, f .2, g .2, e .no-later);
       }
@@ -109,15 +99,7 @@ module _ (n : ℕ) (t : List ℕ) (within : n ≤ 9) (support : ℕ) (sets : Lis
           → (k : ℕ) × (k < many) × (keyOf (getD sets k 0) ≤ keyOf m)
           × ((v : ℕ) → has m v ≡ true → has support v ≡ true → has (getD sets k 0) v ≡ true)
       found m choice =
-          listed .complete m (choice-small n m within choice)
-          (ltb-true m (2 ^ n) (both-left (ltb m (2 ^ n)) _ choice))
-
-  rising : (i i' : ℕ) → i ≤ i' → i' < many → keyOf (getD sets i 0) ≤ keyOf (getD sets i' 0)
-  rising i i' l li =
-      byBool (ltb i i') (λ e. let less = listed .rises i i' (ltb-true i i' e) li in omega arith)
-      (λ e.
-      let same : i ≡ i' = omega (arith, ltb-false i i' e) in
-      rw same (omega arith))
+          listed .complete m (choice-small n m within choice) (choice-lt n m within choice)
 
   direct-rising : (k k' : ℕ) → k ≤ k' → directOf n k ≤ directOf n k'
   direct-rising k k' l = byBool (eqb n 0) (λ z. rw z (omega arith)) (λ z. rw z l)

@@ -2,16 +2,14 @@
 -- Assumes nothing.
 use Prim.Native.Nat.{ℕ}
 use mathlib.Core.Path.{_≡_}
-use mathlib.Core.Bool.{Bool, true, false, not}
-use mathlib.Core.List.{List, [], _∷_}
-use lib.Dec.{eqb}
+use mathlib.Core.Bool.{true, false}
+use mathlib.Core.List.{List, [], _∷_, _++_}
 use lib.ListN.{length}
 use Rattle.block.specs.declared.Written.{Written}
-use Rattle.block.specs.Table.{tableBytes, padding}
 use Rattle.block.specs.Block.{Block, Device}
 use Rattle.block.specs.Value.{Computes}
 use Rattle.block.specs.Tidy.{Tidy, fieldsFit}
-use Rattle.block.specs.Refusal.{Case, _when_, firstOf, tooManyInputs}
+use Rattle.block.specs.Refusal.{_when_, firstOf, tableCases}
 use Rattle.block.specs.Answer.{Writes}
 use Rattle.codec.specs.Ten.{packOf}
 use Rattle.codec.specs.Order.{comesBefore}
@@ -40,13 +38,7 @@ pub record First (n : ℕ) (t : List ℕ) (b : Block) : Type 0 where
 
 -- matching: 1, 2, 3, 5, and then 4
 unfoldable pub matchRefusal : (n : ℕ) (t : List ℕ) (room : ℕ) → ℕ
-matchRefusal n t room =
-    firstOf
-    (1 when tooManyInputs n
-    ∷ 2 when not (eqb (length t) (tableBytes n))
-    ∷ 3 when not (eqb (padding n t) 0)
-    ∷ 5 when noRoom room
-    ∷ [])
+matchRefusal n t room = firstOf (tableCases n t ++ (5 when noRoom room ∷ []))
 
 -- What matching promises. With a table of n inputs and room for ten bytes, 4 is given exactly when no
 -- block realises the table; otherwise the ten bytes of the first are written.

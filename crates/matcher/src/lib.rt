@@ -2,6 +2,7 @@
 ghost use mathlib.Core.Path.{_≡_};
 ghost use mathlib.Core.Bool.{true, _||_};
 ghost use Prim.Native.Nat.{_<_, _≤_, _-_, _%_, _^_};
+ghost use lib.Bits.{bitAnd, bitOr};
 ghost use lib.Dec.{eqb};
 ghost use Rattle.bits.specs.Bits.{has};
 ghost use Rattle.block.specs.Table.{tableBytes, tableRows};
@@ -124,13 +125,20 @@ fn is_tried(within: u16, k: u8) -> bool
     (k == 0) | ((within >> k) % 2 == 1)
 }
 
+// Whether the pins carry every variable of `within`.
+fn covers(within: u16, f: u16, g: u16, direct: u16) -> bool
+    ensures { λ r. ⌜ r ≡ eqb (bitAnd within (bitOr (bitOr f g) direct)) within ⌝ }
+{
+    within & (f | g | direct) == within
+}
+
 // The least contents on one wiring. The tests before the last line only reject.
 fn weigh(n: u8, t: &[u8], within: u16, words: &[u32; 16], f: u16, g: u16, k: u8) -> u64
     requires { ⌜ Weighable n (now t) within (now words) f g k ⌝ }
     ensures { λ r. ⌜ LeastFilling n (now (t .entry)) f g (directOf n k) r ⌝ }
 {
     let direct = direct_set(n, k);
-    if within & (f | g | direct) != within {
+    if !covers(within, f, g, direct) {
         return NONE;
     }
     if !filter::two(words, rows::select(rows::key_of(f), g | direct)) {

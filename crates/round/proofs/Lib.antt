@@ -1,5 +1,4 @@
 -- The round trips. Assumes nothing.
-pub mod FieldTrip
 pub mod RoundLaws
 pub mod PackedLaws
 pub mod OrderLaws

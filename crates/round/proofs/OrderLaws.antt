@@ -11,7 +11,7 @@ use lib.ListN.{length}
 use borrow.Author.Tests.{ltb-true, ltb-false, eqb-true, eqb-false, lt-ltb, le-ltb}
 use Rattle.bits.specs.Tests.{every}
 use Rattle.bits.proofs.TestLaws.{both-left, both-right}
-use Rattle.bits.proofs.MaskLaws.{field-lt}
+use Rattle.bits.proofs.FieldLaws.{field-lt}
 use Rattle.block.specs.declared.Parts.{Parts}
 use Rattle.block.specs.Block.{Block}
 use Rattle.block.specs.Code.{blockOf}

@@ -2,17 +2,15 @@
 -- Assumes nothing.
 use mathlib.Core.Path.{_≡_, refl, sym, ap, ap₂, _∙_}
 use mathlib.Core.Bool.{Bool, true, false, _&&_, _||_, or-false}
-use mathlib.Core.List.{List, [], _∷_}
+use mathlib.Core.List.{[], _∷_}
 use Prim.Native.Nat.{ℕ, _+_, _*_, _/_, _%_, _^_, _<_}
-use native.Mathlib.Nat.{div-eq-of-lt}
 use native.Mathlib.Omega.{arith}
 use lib.Dec.{eqb}
 use lib.Bits.{bitOr}
 use borrow.Author.Tests.{eqb-true, eqb-false}
 use Rattle.bits.specs.Bits.{bit, has, num, ofBits}
-use Rattle.bits.specs.Tests.{pick}
 use Rattle.bits.proofs.SearchLaws.{byBool}
-use Rattle.bits.proofs.BitLaws.{num-has, bit-low, has-low, has-or, has-moved, has-ofBits, ofBits-lt, same-number}
+use Rattle.bits.proofs.BitLaws.{bit-low, has-low, has-or, has-moved, has-ofBits, ofBits-lt, same-number}
 use Rattle.block.specs.Value.{openLevel, pinValue, selected}
 use Rattle.wiring.specs.Wire.{shows, shown}
 
@@ -24,10 +22,13 @@ reads-bit pin r l =
     (λ e. let same = eqb-true pin 15 e in rw (e, same) (omega arith))
     (λ e.
     let other = eqb-false pin 15 e in
-    rw e (ap (λ (x : ℕ). bit x pin) zero-level ∙ bit-low 15 r pin (omega arith)))
+    rw e
+    (sym (bit-low 15 (r % 2 ^ 15 + openLevel * 32768) pin (omega arith))
+    ∙ ap (λ (x : ℕ). bit x pin) same-low
+    ∙ bit-low 15 r pin (omega arith)))
   where
-    zero-level : r % 2 ^ 15 + openLevel * 32768 ≡ r % 2 ^ 15
-    zero-level = omega arith
+    same-low : (r % 2 ^ 15 + openLevel * 32768) % 2 ^ 15 ≡ r % 2 ^ 15
+    same-low = omega arith
 
 pub selects : (a b c d r : ℕ)
     → 8 * pinValue a r + 4 * pinValue b r + 2 * pinValue c r + pinValue d r

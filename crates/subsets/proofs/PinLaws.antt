@@ -14,11 +14,11 @@ use Rattle.block.specs.Block.{isOpen}
 use Rattle.block.specs.Table.{mostInputs}
 use Rattle.block.specs.Tidy.{fieldFits, ordered}
 use Rattle.block.specs.Kind.{carries}
-use Rattle.subsets.specs.Masks.{variablesFrom, variablesIn, pinsOfMask, Small, TidyChoice}
-use Rattle.subsets.specs.Masks.{masks}
+use Rattle.subsets.specs.Masks.{variablesFrom, variablesIn, pinsOfMask, Small, TidyChoice, masks}
 use Rattle.block.proofs.TidyLaws.{fits-lt}
 use Rattle.bits.proofs.TestLaws.{same-bool, both-left, both-right, implied, below-at}
 use Rattle.bits.proofs.ListLaws.{every-at, alike, alike-eq}
+use Rattle.bits.proofs.FieldLaws.{four-of}
 use Rattle.subsets.proofs.MaskLaws.{atMostFour, small, small→Small, masks-rule}
 
 abbrev tidyChoice : List ℕ → Bool
@@ -72,23 +72,13 @@ module _ (a b c d : ℕ) (fields : every (fieldFits mostInputs) (a ∷ b ∷ c �
       let entry = masks-rule .complete (maskOf pins) (small→Small _ (both-left _ _ told)) in
       (entry .0, entry .1, rw (entry .2) same)
 
--- four pins are the list of the four
-four-of : (pins : List ℕ) → length pins ≡ 4
-    → (a : ℕ) × (b : ℕ) × (c : ℕ) × (d : ℕ) × (pins ≡ a ∷ b ∷ c ∷ d ∷ [])
-four-of (a ∷ b ∷ c ∷ d ∷ []) h = (a, b, c, d, refl)
-four-of [] h = absurd (omega arith)
-four-of (a ∷ []) h = absurd (omega arith)
-four-of (a ∷ b ∷ []) h = absurd (omega arith)
-four-of (a ∷ b ∷ c ∷ []) h = absurd (omega arith)
-four-of (a ∷ b ∷ c ∷ d ∷ e ∷ pins) h = absurd (omega arith)
-
 pub listed-choice : (pins : List ℕ) → TidyChoice pins
     → (k : ℕ) × (k < 256) × (pinsOfMask (getD masks k 0) ≡ pins)
 listed-choice pins tidy =
-    let four = four-of pins (tidy .four) in
-    let same = four .4 in
-    let fields = rw same at (tidy .fields) in
-    rw same (listed (four .0) (four .1) (four .2) (four .3) fields (rw same at (tidy .order)))
+    let same = four-of pins (tidy .four) in
+    rw same
+    (listed (getD pins 0 0) (getD pins 1 0) (getD pins 2 0) (getD pins 3 0) (rw same at (tidy .fields))
+    (rw same at (tidy .order)))
 
 -- of a mask of at most four variables, the pins are a tidy choice and carry the variables of the mask
 abbrev pinsRight : ℕ → Bool

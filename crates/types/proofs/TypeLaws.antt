@@ -1,13 +1,9 @@
--- Carried variables by four pins, a count one number at a time, and that the promise leaves one
--- answer. Assumes nothing.
+-- Carried variables by four pins, and that the promise leaves one answer. Assumes nothing.
 use mathlib.Core.Path.{_≡_, sym, ap, _∙_}
-use mathlib.Core.Bool.{Bool, true, false, not, _&&_, _||_, or-false}
+use mathlib.Core.Bool.{Bool, not, _&&_, _||_, or-false}
 use mathlib.Core.List.{List, [], _∷_}
-use Prim.Native.Nat.{ℕ, zero, suc, _+_, _≤_}
-use native.Mathlib.Numerals.{add-one}
-use native.Mathlib.Omega.{arith}
+use Prim.Native.Nat.{ℕ}
 use lib.Dec.{eqb}
-use Rattle.bits.specs.Tests.{pick, count}
 use Rattle.block.specs.declared.Kind.{Kind}
 use Rattle.block.specs.declared.Refusal.{Refusal}
 use Rattle.block.specs.Block.{isOpen}
@@ -28,20 +24,6 @@ pub carries-four : (v a b c d : ℕ)
 unfolding carries
 carries-four v a b c d =
     ap (λ (q : Bool). not (isOpen v) && (eqb v a || (eqb v b || (eqb v c || q)))) (sym (or-false (eqb v d)))
-
-pub count-le : (f : ℕ → Bool) (n : ℕ) → count f n ≤ n
-count-le f zero = omega arith
-count-le f (suc n) = by (f n) (count-le f n)
-  where
-    by : (b : Bool) → count f n ≤ n → pick b 1 0 + count f n ≤ suc n
-    by true l = omega arith
-    by false l = omega arith
-
-pub count-found : (f : ℕ → Bool) (n : ℕ) → f n ≡ true → count f (n + 1) ≡ count f n + 1
-count-found f n e = rw (add-one, e) (omega arith)
-
-pub count-passed : (f : ℕ → Bool) (n : ℕ) → f n ≡ false → count f (n + 1) ≡ count f n
-count-passed f n e = rw (add-one, e) (omega arith)
 
 module _ (n : ℕ) (s : List ℕ) where
   pub refuses-block : (k : Refusal) → numberOf k ≡ checkRefusal n s

@@ -4,6 +4,7 @@ pub mod OnlyLaws
 pub mod ReadLaws
 pub mod SelectLaws
 pub mod ShownLaws
+pub mod ShowsLaws
 pub mod QuietLaws
 pub mod BlockLaws
 pub mod DependLaws

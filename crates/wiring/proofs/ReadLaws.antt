@@ -9,10 +9,10 @@ use lib.Dec.{ltb}
 use lib.ListN.{length, getD}
 use borrow.Author.Tests.{ne-eqb, ltb-true, not-true}
 use Rattle.bits.specs.Bits.{has, num}
-use Rattle.bits.specs.Tests.{member}
+use Rattle.bits.specs.Tests.{every, member}
 use Rattle.bits.proofs.TestLaws.{both-left, both-right, or-cases}
 use Rattle.bits.proofs.SearchLaws.{byBool, clash}
-use Rattle.bits.proofs.ListLaws.{at-member}
+use Rattle.bits.proofs.ListLaws.{at-member, every-member}
 use Rattle.bits.proofs.BitLaws.{num-has}
 use Rattle.block.specs.Block.{openField, isOpen}
 use Rattle.block.specs.Table.{mostInputs}
@@ -68,3 +68,9 @@ carried-closed pins v h = not-true (isOpen v) (both-left (not (isOpen v)) (membe
 pub carried-member : (pins : List ℕ) (v : ℕ) → carries pins v ≡ true → member v pins ≡ true
 unfolding carries
 carried-member pins v h = both-right (not (isOpen v)) (member v pins) h
+
+pub carried-below : (n : ℕ) (pins : List ℕ) → every (fieldFits n) pins ≡ true
+    → (v : ℕ) → carries pins v ≡ true → v < n
+carried-below n pins fit v h =
+    carried-lt n v (every-member (fieldFits n) pins fit v (carried-member pins v h))
+    (carried-closed pins v h)

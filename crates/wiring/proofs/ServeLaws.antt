@@ -10,8 +10,7 @@ use Rattle.bits.proofs.SearchLaws.{clash}
 use Rattle.bits.proofs.TestLaws.{both-left, both-right, implied, below-at, below-of}
 use Rattle.bits.proofs.XorLaws.{xor-no, xor-eq}
 use Rattle.wiring.specs.Wire.{Wiring, exchanged, bridged}
-use Rattle.wiring.specs.Test.{asked, poleF, poleG, steady, allowed}
-use Rattle.wiring.specs.Test.{turned, hRow, serves}
+use Rattle.wiring.specs.Test.{asked, poleF, poleG, steady, allowed, turned, hRow, serves}
 use Rattle.wiring.proofs.TableLaws.{Steady}
 
 -- what polarities k must do to serve component s with table H

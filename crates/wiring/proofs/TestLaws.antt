@@ -18,8 +18,7 @@ use Rattle.wiring.proofs.BlockLaws.{computes→gives, gives→computes}
 use Rattle.wiring.proofs.TableLaws.{table-quiet}
 use Rattle.wiring.proofs.ServeLaws.{Serves→serves}
 use Rattle.wiring.proofs.PoleLaws.{poles-lt}
-use Rattle.wiring.proofs.ChoiceLaws.{component-lt, holds-of, choice-serves}
-use Rattle.wiring.proofs.ChoiceLaws.{ownPoles, own-serves}
+use Rattle.wiring.proofs.ChoiceLaws.{component-lt, holds-of, choice-serves, ownPoles, own-serves}
 use Rattle.wiring.proofs.LeastLaws.{tableF, tableG, best-gives, least-F, least-G}
 use Rattle.wiring.proofs.TurnLaws.{hTurned, hTurned-lt, both, both-lt, both-Both, none-Both}
 use Rattle.wiring.proofs.TurnLaws.{serves-turned}

@@ -1,5 +1,5 @@
 -- `bits::join4` meets its contract. Assumes nothing.
-use Rattle.bits.proofs.MaskLaws.{joined-fields}
+use Rattle.bits.proofs.FieldLaws.{joined-fields}
 use Rattle.bits.proofs.join4.Statement.{statement}
 use Rattle.bits.proofs.join4.Tie as tie
 

@@ -1,6 +1,6 @@
 -- `bits::join8` meets its contract. Assumes nothing.
 use native.Mathlib.Omega.{arith}
-use Rattle.bits.proofs.MaskLaws.{joined-bytes}
+use Rattle.bits.proofs.FieldLaws.{joined-bytes}
 use Rattle.bits.proofs.join8.Statement.{statement}
 use Rattle.bits.proofs.join8.Tie as tie
 

@@ -4,7 +4,7 @@ use mathlib.Core.Path.{_≡_, sym, _∙_}
 use native.Mathlib.Omega.{arith}
 use borrow.Author.Needs.{needs}
 use Rattle.bits.proofs.TestLaws.{same-bool}
-use Rattle.contents.proofs.MaskLaws.{one-shifted}
+use Rattle.bits.proofs.SetLaws.{one-shifted}
 use Rattle.contents.proofs.GatherLaws.{Gathered, gathered-none, gathered-same, gathered-more}
 use Rattle.contents.proofs.changes.Statement.{statement}
 use Rattle.contents.proofs.changes.Tie as tie

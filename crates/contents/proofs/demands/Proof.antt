@@ -9,8 +9,8 @@ use borrow.Author.Needs.{needs}
 use lib.Bits.{bitOr}
 use lib.ListN.{length, getD, set, length-set}
 use Rattle.bits.specs.Tests.{_⊕_}
+use Rattle.bits.proofs.SetLaws.{one-shifted}
 use Rattle.contents.specs.Code.{Marks}
-use Rattle.contents.proofs.MaskLaws.{one-shifted}
 use Rattle.contents.proofs.GatherLaws.{marks-none, marks-skip, marks-add}
 use Rattle.contents.proofs.demands.Statement.{statement}
 use Rattle.contents.proofs.demands.Tie as tie

@@ -6,7 +6,7 @@ use mathlib.Core.Bool.{true}
 use borrow.Author.Needs.{needs}
 use borrow.Author.Tests.{not-true, not-false}
 use Rattle.contents.specs.Contents.{isWiring}
-use Rattle.contents.proofs.ChoiceLaws.{within, direct-lt}
+use Rattle.contents.proofs.ChoiceLaws.{pieces, direct-lt}
 use Rattle.contents.proofs.LeastLaws.{least-of-all, none-possible, weighs-refused, weighs-tidy}
 use Rattle.contents.proofs.least.Statement.{statement}
 use Rattle.contents.proofs.least.Tie as tie
@@ -34,7 +34,7 @@ wires-of-requires c κs = tidy c
 demands-requires : tie.Need-demands-requires
 demands-requires c κs =
     let args = c .before .before .before .before .args in
-    (within (args .n) (args .f) (args .g) (args .direct) (tidy (c .before)), direct-small c)
+    (pieces (args .n) (args .f) (args .g) (args .direct) (tidy (c .before)) .within, direct-small c)
 
 returns-2 : tie.Need-returns-2
 returns-2 c =

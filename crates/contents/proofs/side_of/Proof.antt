@@ -2,7 +2,7 @@
 use mathlib.Core.Path.{refl}
 use native.Mathlib.Omega.{arith}
 use borrow.Author.Needs.{needs}
-use Rattle.contents.proofs.ChoiceLaws.{within, direct-lt}
+use Rattle.contents.proofs.ChoiceLaws.{pieces, direct-lt}
 use Rattle.contents.proofs.SideLaws.{f-nine, is-side}
 use Rattle.contents.proofs.side_of.Statement.{statement}
 use Rattle.contents.proofs.side_of.Tie as tie
@@ -20,7 +20,7 @@ shl-keep c =
 changes-requires : tie.Need-changes-requires
 changes-requires c κs =
     let args = c .before .before .args in
-    within (args .n) (args .set) (args .other) (args .direct) (c .before .before .pre)
+    pieces (args .n) (args .set) (args .other) (args .direct) (c .before .before .pre) .within
 
 shr-bridged : tie.Need-shr-t10
 shr-bridged c =

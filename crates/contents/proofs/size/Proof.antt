@@ -6,7 +6,7 @@ use native.Mathlib.Omega.{arith}
 use borrow.Author.Needs.{needs}
 use lib.ListN.{length}
 use Rattle.subsets.specs.Masks.{variablesFrom, variablesIn}
-use Rattle.contents.proofs.ChoiceLaws.{left, left-step}
+use Rattle.contents.proofs.SizeLaws.{left, left-step}
 use Rattle.contents.proofs.size.Statement.{statement}
 use Rattle.contents.proofs.size.Tie as tie
 

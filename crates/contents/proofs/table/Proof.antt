@@ -7,9 +7,9 @@ use lib.ListN.{getD}
 use lib.Pow.{pow-mono}
 use mir.Val.{boolByte}
 use Rattle.bits.specs.Bits.{ofRows}
-use Rattle.bits.proofs.RowLaws.{ofRows-lt}
+use Rattle.bits.proofs.BitLaws.{byte-num, num-le}
+use Rattle.bits.proofs.RowLaws.{ofRows-lt, ofRows-more}
 use Rattle.contents.specs.Code.{filledBy}
-use Rattle.contents.proofs.FillLaws.{ofRows-more, byte-num, byte-le}
 use Rattle.contents.proofs.table.Statement.{statement}
 use Rattle.contents.proofs.table.Tie as tie
 
@@ -25,7 +25,7 @@ unfolding ofRows
 loop-holds c = search needs
 
 add-found : tie.Need-add-found Inv-loop μ-loop
-add-found c = omega (arith, byte-le (c .filled .result))
+add-found c = omega (arith, byte-num (c .filled .result), num-le (c .filled .result))
 
 loop-again : tie.Need-loop-again Inv-loop μ-loop
 loop-again c =

@@ -1,7 +1,5 @@
 -- `drawmitten_c::drawmitten_match` meets its contract. Assumes nothing.
-use mathlib.Core.Path.{_≡_, sym, ap, _∙_}
 use native.Mathlib.Omega.{arith}
-use Rattle.block.specs.declared.Written.{Written}
 use borrow.Author.Needs.{needs}
 use Rattle.drawmitten_c.proofs.BoundaryLaws.{matched-length, word-length, word-refused}
 use Rattle.drawmitten_c.proofs.drawmitten_match.Statement.{statement}

@@ -6,9 +6,9 @@ use mathlib.Core.Logic.{⊎-elim}
 use native.Mathlib.Omega.{arith}
 use borrow.Author.Needs.{needs}
 use Rattle.bits.specs.Bits.{ofBits}
+use Rattle.bits.proofs.SetLaws.{with-last, without-last}
 use Rattle.wiring.specs.Fits.{dependsOn}
 use Rattle.filter.specs.Support.{supportOf}
-use Rattle.filter.proofs.SupportLaws.{with-last, without-last}
 use Rattle.filter.proofs.support.Statement.{statement}
 use Rattle.filter.proofs.support.Tie as tie
 

@@ -1,16 +1,9 @@
 -- `filter::value` meets its contract. Assumes nothing.
-use mathlib.Core.Path.{_≡_, refl}
-use mathlib.Core.Bool.{Bool, true, false}
-use mir.Val.{boolByte}
+use mathlib.Core.Path.{refl}
 use borrow.Author.Needs.{needs}
-use Rattle.bits.specs.Bits.{num}
-use Rattle.bits.proofs.BitLaws.{num-le}
+use Rattle.bits.proofs.BitLaws.{byte-num, num-le}
 use Rattle.filter.proofs.value.Statement.{statement}
 use Rattle.filter.proofs.value.Tie as tie
-
-byte-num : (b : Bool) → boolByte b ≡ num b
-byte-num true = refl
-byte-num false = refl
 
 returns : tie.Need-returns
 returns c =

@@ -3,12 +3,12 @@ use Prim.Native.Nat.{ℕ, _+_, _-_, _≤_}
 use mathlib.Core.Path.{_≡_, refl, ap, _∙_}
 use mathlib.Core.List.{List}
 use native.Mathlib.Omega.{arith}
-use lib.ListN.{length}
-use lib.ListN.{set as put}
+use lib.ListN.{length, set as put}
 use borrow.Author.Needs.{needs}
+use Rattle.rows.proofs.KeyLaws.{key-pins}
 use Rattle.filter.specs.Choices.{filledUp}
 use Rattle.filter.specs.Words.{wordOf, wordsTo}
-use Rattle.filter.proofs.WordLaws.{words-more, words-done, words-room, key-pins}
+use Rattle.filter.proofs.WordLaws.{words-more, words-done, words-room}
 use Rattle.filter.proofs.words.Statement.{statement}
 use Rattle.filter.proofs.words.Tie as tie
 

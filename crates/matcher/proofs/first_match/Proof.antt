@@ -1,6 +1,6 @@
 -- `matcher::first_match` meets its contract: it decides the refusals 1, 2, 3, 5, then searches.
 -- Assumes nothing.
-use mathlib.Core.Path.{_≡_, sym, ap, _∙_}
+use mathlib.Core.Path.{sym, ap, _∙_}
 use denote.Ref.{now}
 use Rattle.codec.specs.Answers.{checkedOf}
 use borrow.Author.Needs.{needs}

@@ -1,11 +1,7 @@
 -- `matcher::weigh` meets its contract. Assumes nothing.
-use mathlib.Core.Path.{_≡_, sym, ap, _∙_}
-use mathlib.Core.Bool.{Bool, false}
-use Prim.Native.Nat.{ℕ, _<_}
 use native.Mathlib.Omega.{arith}
 use borrow.Author.Needs.{needs}
 use borrow.Author.Tests.{not-true}
-use Rattle.matcher.specs.Search.{Weighable}
 use Rattle.matcher.proofs.PlaceLaws.{directs-most}
 use Rattle.matcher.proofs.TrialLaws.{rejects-missed, rejects-f, rejects-g, weighs}
 use Rattle.matcher.proofs.weigh.Statement.{statement}
@@ -18,30 +14,33 @@ direct-set-requires c κs =
 
 returns : tie.Need-returns
 returns c =
-    let start = c .before .before .before in
+    let called = c .before .before in
+    let start = called .before .before in
     let a = start .args in
     rejects-missed (a .n) (a .t .now) (a .within) (a .words .now) (a .f) (a .g) (a .k) (start .pre)
-    (λ e. c .if1 .taken (rw (c .before .direct-set .ensures) e))
+    (called .direct-set .result) (c .before .covers .result) (called .direct-set .ensures)
+    (c .before .covers .ensures) (not-true (c .before .covers .result) (c .if1 .taken))
 
 returns-2 : tie.Need-returns-2
 returns-2 c =
-    let start = c .before .before .before .before .before .before .before in
-    let a = start .args in
     let called = c .before .before .before in
+    let direct = called .before .before .before in
+    let start = direct .before .before in
+    let a = start .args in
     rejects-f (a .n) (a .t .now) (a .within) (a .words .now) (a .f) (a .g) (a .k) (start .pre)
-    (called .before .before .direct-set .result) (called .key-of .result)
+    (direct .direct-set .result) (called .key-of .result)
     (c .before .before .select .result) (c .before .two .result)
-    (called .before .before .direct-set .ensures) (called .key-of .ensures)
+    (direct .direct-set .ensures) (called .key-of .ensures)
     (c .before .before .select .ensures .0) (c .before .two .ensures)
     (not-true (c .before .two .result) (c .if2 .taken))
 
 returns-3 : tie.Need-returns-3
 returns-3 c =
     let passed = c .before .before .before .before .before .before in
-    let start = passed .before .before .before .before .before .before .before in
+    let start = passed .before .before .before .before .before .before .before .before in
     let a = start .args in
     let called = c .before .before .before in
-    let direct = passed .before .before .before .before .before .direct-set in
+    let direct = passed .before .before .before .before .before .before .direct-set in
     rejects-g (a .n) (a .t .now) (a .within) (a .words .now) (a .f) (a .g) (a .k) (start .pre)
     (direct .result) (called .key-of2 .result) (c .before .before .select2 .result)
     (called .before .before .words .result) (c .before .two2 .result) (direct .ensures)
@@ -52,7 +51,7 @@ returns-3 c =
 returns-4 : tie.Need-returns-4
 returns-4 c =
     let passed = c .before .before .before .before .before .before .before .before in
-    let start = passed .before .before .before .before .before .before .before in
+    let start = passed .before .before .before .before .before .before .before .before in
     let a = start .args in
     weighs (a .n) (a .t .now) (a .within) (a .words .now) (a .f) (a .g) (a .k) (start .pre) (c .least .result)
     (rw (← c .before .direct-of .ensures) (c .least .ensures))
@@ -62,6 +61,7 @@ weigh-spec =
     tie.close
     (tie.spec
     direct-set-requires
+    (search needs)
     returns
     (search needs)
     (search needs)

@@ -1,5 +1,4 @@
 -- `matcher::write_first` meets its contract: what the search found is packed. Assumes nothing.
-use mathlib.Core.Path.{_≡_, sym, ap, _∙_}
 use lib.ListN.{length}
 use denote.Ref.{now}
 use borrow.Author.Needs.{needs}

@@ -1,5 +1,4 @@
 -- `rows::pin_value` meets its contract. Assumes nothing.
-use Prim.Native.Nat.{_<_, _≤_}
 use native.Mathlib.Omega.{arith}
 use borrow.Author.Needs.{needs}
 use Rattle.rows.proofs.SeenLaws.{reads-bit}

@@ -1,9 +1,8 @@
 -- `rows::raised` meets its contract: a bit moved up by less than 16 is not cut. Assumes nothing.
-use mathlib.Core.Path.{_≡_, sym, ap, _∙_}
-use Prim.Native.Nat.{ℕ, _*_, _/_, _%_, _^_, _<_}
+use mathlib.Core.Path.{sym, ap, _∙_}
+use Prim.Native.Nat.{ℕ, _*_, _^_}
 use native.Mathlib.Omega.{arith}
 use lib.Pow.{shl-exact}
-use Rattle.bits.specs.Bits.{bit}
 use Rattle.bits.proofs.BitLaws.{num-has}
 use borrow.Author.Needs.{needs}
 use Rattle.rows.proofs.raised.Statement.{statement}

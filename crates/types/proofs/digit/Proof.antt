@@ -5,9 +5,9 @@ use mathlib.Core.Logic.{⊎-elim}
 use Prim.Native.Nat.{ℕ, _+_, _-_, _≤_}
 use native.Mathlib.Omega.{arith}
 use Rattle.bits.specs.Tests.{count}
+use Rattle.bits.proofs.CountLaws.{count-most, count-found, count-passed}
 use Rattle.block.specs.Code.{blockOf}
 use Rattle.block.specs.Kind.{isShared, digitOf}
-use Rattle.types.proofs.TypeLaws.{count-le, count-found, count-passed}
 use Rattle.types.proofs.digit.Statement.{statement}
 use Rattle.types.proofs.digit.Tie as tie
 
@@ -26,7 +26,7 @@ shared-requires c κs = tt
 add-found : tie.Need-add-found Inv-loop μ-loop
 add-found c =
     let loop = c .before .before .before in
-    omega (arith, count-le (isShared (blockOf (loop .before .args .x))) (loop .loop .v))
+    omega (arith, count-most (isShared (blockOf (loop .before .args .x))) (loop .loop .v))
 
 add-v : tie.Need-add-v Inv-loop μ-loop
 add-v c = omega arith

@@ -1,7 +1,5 @@
 -- `ask::say::hexadecimal` is safe and ends. Assumes nothing.
-use Prim.Native.Nat.{_-_, _≤_}
-use mathlib.Core.Path.{_≡_}
-use lib.ListN.{length}
+use Prim.Native.Nat.{_-_}
 use borrow.Author.Needs.{needs}
 use Rattle.ask.proofs.say.hexadecimal.Statement.{statement}
 use Rattle.ask.proofs.say.hexadecimal.Tie as tie

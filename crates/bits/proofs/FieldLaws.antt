@@ -1,13 +1,34 @@
--- Fields into bytes and numbers, and out again. Assumes nothing.
-use mathlib.Core.Path.{_≡_, ap}
-use mathlib.Core.List.{List, [], _∷_}
+-- Fields of four bits into bytes and numbers, and out again; lists of four and of ten. Assumes nothing.
+use mathlib.Core.Path.{_≡_, refl, ap}
+use mathlib.Core.List.{List, [], _∷_, _++_}
 use Prim.Native.Nat.{ℕ, zero, suc, _+_, _*_, _/_, _%_, _^_, _<_}
 use native.Mathlib.Nat.{pow-succ', one-le-pow, add-mul, mul-assoc}
-use lib.Arith.{mod-mul}
 use native.Mathlib.Omega.{arith}
+use lib.Arith.{mod-mul}
+use lib.Bits.{bitAnd, bitOr, and-mask, or-shifted}
 use lib.ListN.{length, getD, drop, drop-of-length-le}
+use lib.Pow.{shl-exact}
 use lib.Seq.{drop-cons}
-use Rattle.bits.specs.Bits.{joined, split}
+use Rattle.bits.specs.Bits.{nibble, joined, split}
+
+-- a field is of four bits
+pub field-lt : (x : ℕ) → x % 16 < 16
+field-lt x = omega arith
+
+pub nibble-lt : (s : List ℕ) (i : ℕ) → nibble s i < 16
+nibble-lt s i = omega arith
+
+-- fields and bytes joined by a shift and `|`: what is shifted has no bit in common with the other
+pub joined-fields : (high low : ℕ)
+    → bitOr ((bitAnd high 15 * 16) % 256) (bitAnd low 15) ≡ high % 16 * 16 + low % 16
+joined-fields high low =
+    let small : high % 16 < 16 = omega arith in
+    rw (and-mask high 4, and-mask low 4, shl-exact 4 4 8 small (omega arith))
+    (or-shifted (high % 16) 4 (low % 16) (omega arith))
+
+pub joined-bytes : (high low : ℕ) → high < 256 → low < 256
+    → bitOr ((high * 256) % 65536) low ≡ high * 256 + low
+joined-bytes high low h l = rw (shl-exact 8 8 16 h (omega arith)) (or-shifted high 8 low l)
 
 -- two fields in a byte
 pub high-field : (a b : ℕ) → a < 16 → b < 16 → (a * 16 + b) / 16 % 16 ≡ a
@@ -73,3 +94,10 @@ ten-of l n =
       drop-cons l 9 0 (omega arith),
       drop-of-length-le l {i = 10} (omega arith),
     )
+
+pub joined-append : (high : ℕ) (xs ys : List ℕ) → joined high (xs ++ ys) ≡ joined (joined high xs) ys
+joined-append high [] ys = refl
+joined-append high (x ∷ xs) ys = joined-append (high * 16 + x) xs ys
+
+pub joined-four : (high : ℕ) (l : List ℕ) → length l ≡ 4 → joined high l ≡ high * 65536 + joined 0 l
+joined-four high l n = rw (four-of l n) (omega arith)
