@@ -21,10 +21,10 @@ use Rattle.wiring.proofs.TestLaws.{rowsF-quiet, rowsG-quiet, rowsF-lt, rowsG-lt
 use Rattle.contents.specs.declared.Wires.{Wires}
 use Rattle.contents.specs.declared.Asked.{Asked}
 use Rattle.contents.specs.Contents.{isWiring, wiringOf, blockWith, noContents, Fills, LeastFilling, Weighs}
-use Rattle.contents.specs.Code.{AreWires, AreAsked, componentBy, possibleBy, weighBy, leastOf}
+use Rattle.contents.specs.Code.{AreWires, AreAsked, componentBy, possibleBy, withTable, leastOf}
 use Rattle.contents.proofs.ChoiceLaws.{wired}
 use Rattle.contents.proofs.MinimumLaws.{leastOf-most, leastOf-le, leastOf-is}
-use Rattle.contents.proofs.StandLaws.{component-as, serves-as, holds-as, weigh-as}
+use Rattle.contents.proofs.StandLaws.{component-as, serves-as, holds-as, with-as}
 
 -- contents taken apart
 module _ (f g h : ℕ) (g-fits : g < 2 ^ 16) (h-fits : h < 2 ^ 8) where
@@ -106,29 +106,29 @@ module _ (n : ℕ) (t : List ℕ) (f g direct : ℕ) (tidy : isWiring n f g dire
           (fills .computes) in
           omega arith
 
-      weighed : weighBy x a h ≤ y
-      weighed = rw (weigh-as n t w pins x are a ask h, hushed, held) found-least
+      weighed : withTable x a h ≤ y
+      weighed = rw (with-as n t w pins x are a ask h, hushed, held) found-least
 
-    weigh-fills : (h : ℕ) → h < 256 → weighBy x a h < noContents → Fills n t f g direct (weighBy x a h)
-    weigh-fills h l some-way =
+    with-fills : (h : ℕ) → h < 256 → withTable x a h < noContents → Fills n t f g direct (withTable x a h)
+    with-fills h l some-way =
         byBool (quiet 8 h (direct ∷ []) && holds n t w h)
         (λ e.
-        let is : weighBy x a h ≡ found h = weigh-as n t w pins x are a ask h ∙ rw e in
+        let is : withTable x a h ≡ found h = with-as n t w pins x are a ask h ∙ rw e in
         rw is
         (found-fills h l (both-left _ _ e) (both-right (quiet 8 h (direct ∷ [])) _ e)))
         (λ e.
-        let is : weighBy x a h ≡ noContents = weigh-as n t w pins x are a ask h ∙ rw e in
+        let is : withTable x a h ≡ noContents = with-as n t w pins x are a ask h ∙ rw e in
         absurd (omega arith))
 
-    pub least-of-all : LeastFilling n t f g direct (leastOf noContents (weighBy x a) 256)
+    pub least-of-all : LeastFilling n t f g direct (leastOf noContents (withTable x a) 256)
     least-of-all =
         record {
-          most = leastOf-most noContents (weighBy x a) 256;
+          most = leastOf-most noContents (withTable x a) 256;
           fills = λ l.
-              let at = leastOf-is noContents (weighBy x a) 256 l in
-              rw (at .2) (weigh-fills (at .0) (at .1) (rw (at .2) at l));
+              let at = leastOf-is noContents (withTable x a) 256 l in
+              rw (at .2) (with-fills (at .0) (at .1) (rw (at .2) at l));
           least = λ y fills.
-              let least = leastOf-le noContents (weighBy x a) 256 (y % 2 ^ 8) (omega arith) in
+              let least = leastOf-le noContents (withTable x a) 256 (y % 2 ^ 8) (omega arith) in
               omega (arith, weighed y fills);
         }
 

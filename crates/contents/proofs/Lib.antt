@@ -6,7 +6,7 @@ pub mod FillLaws
 pub mod MinimumLaws
 pub mod GatherLaws
 pub mod PoleLaws
-pub mod WeighLaws
+pub mod WithTableLaws
 pub mod SideLaws
 pub mod StandLaws
 pub mod LeastLaws

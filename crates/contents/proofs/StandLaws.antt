@@ -29,7 +29,7 @@ use Rattle.contents.specs.declared.Asked.{Asked}
 use Rattle.contents.specs.Contents.{noContents}
 use Rattle.contents.specs.Code.{IsSide, AreWires, componentBy, changedBy, slotBy, askedBy}
 use Rattle.contents.specs.Code.{AreAsked, allowedBy, servesBy, choiceBy, choiceAt, holdsBy}
-use Rattle.contents.specs.Code.{shownBy, filledBy, weighBy}
+use Rattle.contents.specs.Code.{shownBy, filledBy, withTable}
 
 changed-as : (n : ℕ) (t : List ℕ) (w : Wiring) (s : Side) → IsSide n t w s → length (w .f) ≡ 4
     → (r : ℕ) → changedBy s r ≡ changes n t w (selected (w .f) r)
@@ -121,11 +121,11 @@ module _ (n : ℕ) (t : List ℕ) (w : Wiring) (wired : Wired n w) (x : Wires) (
           (λ r. pole (choice n t w h (component n w r))))
       rows-as = ofRows-ext 16 _ _ filled-as
 
-    pub weigh-as : weighBy x a h
+    pub with-as : withTable x a h
         ≡ pick (quiet 8 h (w .direct ∷ []) && holds n t w h)
         ((rowsF n t w h * 65536 + rowsG n t w h) * 256 + h) noContents
-    unfolding weighBy rowsF rowsG
-    weigh-as =
+    unfolding withTable rowsF rowsG
+    with-as =
         rw (
           holds-as,
           rows-as w (x .f) (are .in-f) (are .pin) (wired .f-fit) 3 poleF pole-f,

@@ -122,8 +122,8 @@ filledBy w s poles at x =
     (at - num (s .bridged && reads (w .direct) (shownBy (s .key) x))))
 
 -- the contents with table H, or none
-unfoldable pub weighBy : (w : Wires) (a : Asked) (h : ℕ) → ℕ
-weighBy w a h =
+unfoldable pub withTable : (w : Wires) (a : Asked) (h : ℕ) → ℕ
+withTable w a h =
     pick (quiet 8 h (w .direct ∷ []) && holdsBy w a h)
     ((ofRows 16 (filledBy w (w .f) (choiceAt w a h) 3) * 65536
     + ofRows 16 (filledBy w (w .g) (choiceAt w a h) 1))

@@ -16,7 +16,7 @@ ghost use Rattle.wiring.specs.Test.{hRow, turned};
 ghost use Rattle.contents.specs.Contents.{isChoice, isWiring, wiringOf, noContents, Weighs};
 ghost use Rattle.contents.specs.Code.{changesBy, IsSide, AreWires, componentBy, changedBy, slotBy};
 ghost use Rattle.contents.specs.Code.{AreAsked, flip, allowedBy, servesBy, choiceBy, AreChosen};
-ghost use Rattle.contents.specs.Code.{possibleBy, filledBy, weighBy, leastOf};
+ghost use Rattle.contents.specs.Code.{possibleBy, filledBy, withTable, leastOf};
 use block::MOST_INPUTS;
 use block::OPEN;
 use block::OPEN_LEVEL;
@@ -332,9 +332,9 @@ fn silent(direct: u8, h: u8) -> bool
 }
 
 // The contents with table H, or NONE.
-fn weigh(w: Wires, a: Asked, h: u8) -> u64
+fn with_table(w: Wires, a: Asked, h: u8) -> u64
     requires { ⌜ w .direct < 16 ⌝ }
-    ensures { λ r. ⌜ r ≡ weighBy w a h ⌝ }
+    ensures { λ r. ⌜ r ≡ withTable w a h ⌝ }
 {
     if !silent(w.direct, h) {
         return NONE;
@@ -352,11 +352,11 @@ fn weigh(w: Wires, a: Asked, h: u8) -> u64
 // The least contents over all tables H.
 fn smallest(w: Wires, a: Asked) -> u64
     requires { ⌜ w .direct < 16 ⌝ }
-    ensures { λ r. ⌜ r ≡ leastOf noContents (weighBy w a) 256 ⌝ }
+    ensures { λ r. ⌜ r ≡ leastOf noContents (withTable w a) 256 ⌝ }
 {
     let mut best: u64 = NONE;
     for h in 0u16..256 {
-        let x = weigh(w, a, h as u8);
+        let x = with_table(w, a, h as u8);
         if best <= x {
             continue;
         }

@@ -13,7 +13,7 @@ use Rattle.bits.specs.Tests.{some}
 use Rattle.bits.proofs.SearchLaws.{some-ext}
 use Rattle.subsets.specs.Masks.{masks}
 use Rattle.filter.specs.Support.{inputsOf}
-use Rattle.filter.specs.Choices.{contains, served, joining, usefulTo, usefulOf, filledUp}
+use Rattle.filter.specs.Choices.{contains, contained, joining, usefulTo, usefulOf, filledUp}
 use Rattle.filter.specs.Choices.{choicesOf}
 use Rattle.filter.specs.declared.Choices.{Choices}
 use Rattle.filter.proofs.FillLaws.{filled-more, filled-at}
@@ -38,7 +38,7 @@ module _ (n within i : ℕ) (sets : List ℕ) (many : ℕ) (held : Gathered n wi
 
   -- the code's test is that of the list
   pub tested : some (λ k. contains (getD sets k 0) (bitAnd next-set within)) many
-      ≡ served within list-now next-set
+      ≡ contained within list-now next-set
   tested =
       rw (held .list, held .counted)
       (some-ext (length list-now) _ _
@@ -57,17 +57,17 @@ module _ (n within i : ℕ) (sets : List ℕ) (many : ℕ) (held : Gathered n wi
   unfolding usefulTo joining
   gathered-past l = same-list (rw (add-one i, le-ltb next-set (2 ^ n) l))
 
-  pub gathered-served : served within list-now next-set ≡ true → Gathered n within (i + 1) sets many
+  pub gathered-contained : contained within list-now next-set ≡ true → Gathered n within (i + 1) sets many
   unfolding usefulTo joining
-  gathered-served h =
+  gathered-contained h =
       same-list (rw (add-one i, h, and-false (ltb next-set (2 ^ n))))
 
-  joined-list : next-set < 2 ^ n → served within list-now next-set ≡ false
+  joined-list : next-set < 2 ^ n → contained within list-now next-set ≡ false
       → usefulTo n within (i + 1) ≡ list-now ++ (next-set ∷ [])
   unfolding usefulTo joining
   joined-list l h = rw (add-one i, lt-ltb next-set (2 ^ n) l, h)
 
-  pub gathered-more : i < 256 → next-set < 2 ^ n → served within list-now next-set ≡ false
+  pub gathered-more : i < 256 → next-set < 2 ^ n → contained within list-now next-set ≡ false
       → Gathered n within (i + 1) (put sets many next-set) (many + 1)
   gathered-more room l h =
       let e = joined-list l h in

@@ -27,7 +27,7 @@ use Rattle.wiring.proofs.OnlyLaws.{has-without, only-agree}
 use Rattle.wiring.proofs.ShownLaws.{ends-selected}
 use Rattle.wiring.proofs.ShowsLaws.{shows-member, shows-same}
 use Rattle.filter.specs.Two.{apart, twoOf}
-use Rattle.filter.specs.Words.{placeOf, restOf, wordOf, wordsOf}
+use Rattle.filter.specs.Words.{placeOf, restOf, wordAt, wordsOf}
 use Rattle.filter.proofs.TwoLaws.{apart-out, two-true}
 use Rattle.filter.proofs.WordLaws.{same-word, words-at}
 
@@ -139,7 +139,7 @@ module _ (n : ℕ) (t : List ℕ) (within f : ℕ) (g : ℕ → Bool) (d : ℕ) 
         (λ closed. let below = carried-lt n d direct closed in row-bit y d below (sees-d d below refl))
 
     -- F's output decides the word
-    by-f : output a ≡ output b → wordOf t within f a ≡ wordOf t within f b
+    by-f : output a ≡ output b → wordAt t within f a ≡ wordAt t within f b
     by-f e =
         same-word t within f a b
         (λ y.

@@ -16,7 +16,7 @@ use Rattle.bits.proofs.SearchLaws.{byBool, some-out}
 use Rattle.bits.proofs.BitLaws.{has-and}
 use Rattle.subsets.specs.Masks.{masks, keyOf, Small}
 use Rattle.subsets.proofs.MaskLaws.{masks-rule}
-use Rattle.filter.specs.Choices.{contains, served, joining, usefulTo, usefulOf, choicesOf, Listed}
+use Rattle.filter.specs.Choices.{contains, contained, joining, usefulTo, usefulOf, choicesOf, Listed}
 use Rattle.filter.proofs.FillLaws.{filled-at}
 
 -- the set has the variables of m inside `within`
@@ -90,8 +90,8 @@ module _ (n within i : ℕ) (list : List ℕ) (so-far : Listing n within i list)
         serving = up-to list (so-far .serving) this;
       }
 
-  by-served : served within list set ≡ true → Serving within list set
-  by-served h =
+  by-contained : contained within list set ≡ true → Serving within list set
+  by-contained h =
       let w = some-out (λ k. contains (getD list k 0) (bitAnd set within)) (length list) h in
       let key = before (getD list (w .0) 0) (so-far .entry (w .0) (w .1)) in
       (w .0, w .1, omega arith, contains-serves within set (getD list (w .0) 0) (w .2))
@@ -136,8 +136,8 @@ module _ (n within i : ℕ) (list : List ℕ) (so-far : Listing n within i list)
   next-listing =
       byBool (ltb set (2 ^ n))
       (λ e.
-      byBool (served within list set)
-      (λ h. rw (e, h) (left-out (λ l. by-served h)))
+      byBool (contained within list set)
+      (λ h. rw (e, h) (left-out (λ l. by-contained h)))
       (λ h. rw (e, h) (joined-listing (ltb-true set (2 ^ n) e))))
       (λ e.
       let past = ltb-false set (2 ^ n) e in rw e (left-out (λ l. absurd (omega arith))))

@@ -13,7 +13,7 @@ use borrow.Author.Tests.{eq-eqb, ne-eqb, eqb-true, eqb-false}
 use Rattle.bits.proofs.SearchLaws.{byBool}
 use Rattle.wiring.specs.Wire.{truth}
 use Rattle.filter.specs.Choices.{filledUp}
-use Rattle.filter.specs.Words.{next, push, wordFrom, placeOf, restOf, wordOf, wordsTo, wordsOf}
+use Rattle.filter.specs.Words.{next, push, wordFrom, placeOf, restOf, wordAt, wordsTo, wordsOf}
 use Rattle.filter.proofs.FillLaws.{filled-more, filled-all, filled-length}
 
 module _ (t : List ℕ) (from rest m y w : ℕ) where
@@ -48,8 +48,8 @@ pub same-word : (t : List ℕ) (within set a b : ℕ)
     → ((y : ℕ)
     → truth t (bitOr (placeOf set a) (bitAnd y (restOf within set)))
     ≡ truth t (bitOr (placeOf set b) (bitAnd y (restOf within set))))
-    → wordOf t within set a ≡ wordOf t within set b
-unfolding wordOf
+    → wordAt t within set a ≡ wordAt t within set b
+unfolding wordAt
 same-word t within set a b h =
     let rest = restOf within set in
     rw (and-zero-l rest) at (same-turns t (placeOf set a) (placeOf set b) rest 32 0 0 h)
@@ -60,29 +60,29 @@ module _ (t : List ℕ) (within set : ℕ) where
   length-words zero = refl
   length-words (suc k) = rw (length-append, length-words k) (omega arith)
 
-  pub words-at : (k i : ℕ) → i < k → getD (wordsTo t within set k) i 0 ≡ wordOf t within set i
+  pub words-at : (k i : ℕ) → i < k → getD (wordsTo t within set k) i 0 ≡ wordAt t within set i
   unfolding wordsTo
   words-at zero i l = absurd (not-suc-le-zero l)
   words-at (suc k) i l =
       byBool (eqb i k)
       (λ e.
       let same = eqb-true i k e in
-      rw same (getD-at (wordsTo t within set k) (wordOf t within set k) [] 0 k (length-words k)))
+      rw same (getD-at (wordsTo t within set k) (wordAt t within set k) [] 0 k (length-words k)))
       (λ e.
       let other = eqb-false i k e in
       let sized = length-words k in
-      List·getD-append (wordsTo t within set k) (wordOf t within set k ∷ []) 0 i (omega arith)
+      List·getD-append (wordsTo t within set k) (wordAt t within set k ∷ []) 0 i (omega arith)
       ∙ words-at k i (omega arith))
 
   -- one word more, as the code puts it into its sixteen
-  pub words-more : (a w : ℕ) → a < 16 → w ≡ wordOf t within set a
+  pub words-more : (a w : ℕ) → a < 16 → w ≡ wordAt t within set a
       → put (filledUp 16 (wordsTo t within set a)) a w ≡ filledUp 16 (wordsTo t within set (a + 1))
   unfolding wordsTo
   words-more a w l e =
       let list = wordsTo t within set a in
       let sized = length-words a in
       rw (e, add-one a, sized)
-      (rw sized at (filled-more 16 list (wordOf t within set a) (omega arith)))
+      (rw sized at (filled-more 16 list (wordAt t within set a) (omega arith)))
 
   pub words-done : filledUp 16 (wordsTo t within set 16) ≡ wordsOf t within set
   unfolding wordsOf

@@ -18,13 +18,13 @@ abbrev pub contains : (set part : ℕ) → Bool
 contains set part = eqb (bitAnd part set) part
 
 -- one of the list contains the set's part inside `within`
-abbrev pub served : (within : ℕ) (list : List ℕ) (set : ℕ) → Bool
-served within list set = some (λ k. contains (getD list k 0) (bitAnd set within)) (length list)
+abbrev pub contained : (within : ℕ) (list : List ℕ) (set : ℕ) → Bool
+contained within list set = some (λ k. contains (getD list k 0) (bitAnd set within)) (length list)
 
--- the list with the set at its end, if the set is below 2 ^ n and not served
+-- the list with the set at its end, if the set is below 2 ^ n and not contained
 unfoldable pub joining : (n within : ℕ) (list : List ℕ) (set : ℕ) → List ℕ
 joining n within list set =
-    pick (ltb set (2 ^ n) && not (served within list set)) (list ++ (set ∷ [])) list
+    pick (ltb set (2 ^ n) && not (contained within list set)) (list ++ (set ∷ [])) list
 
 -- what comes of the first sets of the table, so many
 unfoldable pub usefulTo : (n within count : ℕ) → List ℕ

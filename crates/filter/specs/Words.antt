@@ -35,13 +35,13 @@ abbrev pub restOf : (within set : ℕ) → ℕ
 restOf within set = without mostInputs (has set) within
 
 -- the word of table row a, over the rest
-unfoldable pub wordOf : (t : List ℕ) (within set a : ℕ) → ℕ
-wordOf t within set a = wordFrom t (placeOf set a) (restOf within set) 32 0 0
+unfoldable pub wordAt : (t : List ℕ) (within set a : ℕ) → ℕ
+wordAt t within set a = wordFrom t (placeOf set a) (restOf within set) 32 0 0
 
 -- the words of the first rows, so many
 unfoldable pub wordsTo : (t : List ℕ) (within set count : ℕ) → List ℕ
 wordsTo t within set zero = []
-wordsTo t within set (suc a) = wordsTo t within set a ++ (wordOf t within set a ∷ [])
+wordsTo t within set (suc a) = wordsTo t within set a ++ (wordAt t within set a ∷ [])
 
 -- of all sixteen
 unfoldable pub wordsOf : (t : List ℕ) (within set : ℕ) → List ℕ

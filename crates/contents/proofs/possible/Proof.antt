@@ -9,7 +9,7 @@ use borrow.Author.Count.{below-none, below-more}
 use borrow.Author.Tests.{not-true, not-false}
 use Rattle.bits.proofs.SearchLaws.{some-in, none-in}
 use Rattle.contents.specs.Code.{possibleBy}
-use Rattle.contents.proofs.WeighLaws.{first-not, all-not, first-and-all}
+use Rattle.contents.proofs.WithTableLaws.{first-not, all-not, first-and-all}
 use Rattle.contents.proofs.possible.Statement.{statement}
 use Rattle.contents.proofs.possible.Tie as tie
 

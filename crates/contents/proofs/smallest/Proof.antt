@@ -5,13 +5,13 @@ use mathlib.Core.Path.{_≡_, refl, _∙_}
 use native.Mathlib.Omega.{arith}
 use borrow.Author.Needs.{needs}
 use Rattle.contents.specs.Contents.{noContents}
-use Rattle.contents.specs.Code.{weighBy, leastOf}
+use Rattle.contents.specs.Code.{withTable, leastOf}
 use Rattle.contents.proofs.MinimumLaws.{leastOf-less, leastOf-same}
 use Rattle.contents.proofs.smallest.Statement.{statement}
 use Rattle.contents.proofs.smallest.Tie as tie
 
 abbrev Inv-loop : tie.InvT-loop
-Inv-loop w a best₀ h₀ best h = (h ≤ 256) × (best ≡ leastOf noContents (weighBy w a) h)
+Inv-loop w a best₀ h₀ best h = (h ≤ 256) × (best ≡ leastOf noContents (withTable w a) h)
 
 abbrev μ-loop : tie.MeasureT-loop
 μ-loop w a best₀ h₀ best h = 256 - h
@@ -27,8 +27,8 @@ loop-again c =
     let best = loop .loop .inv .1 in (
       omega arith,
       best
-          ∙ leastOf-same noContents (weighBy (args .w) (args .a)) (loop .loop .h)
-          (omega (arith, c .before .weigh .ensures)),
+          ∙ leastOf-same noContents (withTable (args .w) (args .a)) (loop .loop .h)
+          (omega (arith, c .before .with-table .ensures)),
     )
 
 loop-again-2 : tie.Need-loop-again-2 Inv-loop μ-loop
@@ -37,9 +37,9 @@ loop-again-2 c =
     let args = loop .before .args in
     let best = loop .loop .inv .1 in (
       omega arith,
-      c .before .weigh .ensures
-          ∙ leastOf-less noContents (weighBy (args .w) (args .a)) (loop .loop .h)
-          (omega (arith, c .before .weigh .ensures)),
+      c .before .with-table .ensures
+          ∙ leastOf-less noContents (withTable (args .w) (args .a)) (loop .loop .h)
+          (omega (arith, c .before .with-table .ensures)),
     )
 
 returns : tie.Need-returns Inv-loop μ-loop

@@ -7,8 +7,8 @@ use lib.ListN.{getD}
 use borrow.Author.Needs.{needs}
 use Rattle.subsets.specs.Masks.{masks}
 use Rattle.filter.specs.Support.{inputsOf}
-use Rattle.filter.specs.Choices.{served, usefulTo}
-use Rattle.filter.proofs.ChoiceLaws.{Gathered, gathered-start, gathered-past, gathered-served}
+use Rattle.filter.specs.Choices.{contained, usefulTo}
+use Rattle.filter.proofs.ChoiceLaws.{Gathered, gathered-start, gathered-past, gathered-contained}
 use Rattle.filter.proofs.ChoiceLaws.{gathered-more, gathered-all, tested}
 use Rattle.filter.proofs.useful.Statement.{statement}
 use Rattle.filter.proofs.useful.Tie as tie
@@ -35,7 +35,7 @@ loop-again c =
 -- what the code's test says of the list
 the-test : (c : tie.After-dominated Inv-loop μ-loop)
     → c .dominated .result
-    ≡ served (c .before .before .before .before .before .before .before .before .args .within)
+    ≡ contained (c .before .before .before .before .before .before .before .before .args .within)
     (usefulTo (inputsOf (c .before .before .before .before .before .before .before .before .args .n))
     (c .before .before .before .before .before .before .before .before .args .within)
     (c .before .before .before .before .loop .i))
@@ -49,7 +49,7 @@ loop-again-2 : tie.Need-loop-again-2 Inv-loop μ-loop
 loop-again-2 c =
     let l = c .before .before .before .before .before .loop in
     let told = sym (the-test (c .before)) ∙ c .if2 .taken in
-    (omega arith, gathered-served _ _ (l .i) (l .sets) (l .many) (l .inv .1) told)
+    (omega arith, gathered-contained _ _ (l .i) (l .sets) (l .many) (l .inv .1) told)
 
 loop-again-3 : tie.Need-loop-again-3 Inv-loop μ-loop
 loop-again-3 c =

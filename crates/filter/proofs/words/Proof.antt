@@ -7,7 +7,7 @@ use lib.ListN.{length, set as put}
 use borrow.Author.Needs.{needs}
 use Rattle.rows.proofs.KeyLaws.{key-pins}
 use Rattle.filter.specs.Choices.{filledUp}
-use Rattle.filter.specs.Words.{wordOf, wordsTo}
+use Rattle.filter.specs.Words.{wordAt, wordsTo}
 use Rattle.filter.proofs.WordLaws.{words-more, words-done, words-room}
 use Rattle.filter.proofs.words.Statement.{statement}
 use Rattle.filter.proofs.words.Tie as tie
@@ -25,11 +25,11 @@ loop-holds c = (omega arith, refl, refl)
 
 the-word : (c : tie.After-word Inv-loop μ-loop)
     → c .word .result
-    ≡ wordOf (c .before .before .before .before .before .before .before .args .t .now)
+    ≡ wordAt (c .before .before .before .before .before .before .before .args .t .now)
     (c .before .before .before .before .before .before .before .args .within)
     (c .before .before .before .before .before .before .before .args .set)
     (c .before .before .before .loop .a)
-unfolding wordOf
+unfolding wordAt
 the-word c =
     let keyed = c .before .before .before .before .before in
     rw (

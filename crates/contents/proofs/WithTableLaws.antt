@@ -14,7 +14,7 @@ use Rattle.contents.specs.declared.Asked.{Asked}
 use Rattle.contents.specs.declared.Chosen.{Chosen}
 use Rattle.contents.specs.Contents.{noContents}
 use Rattle.contents.specs.Code.{componentBy, shownBy, servesBy, choiceAt, holdsBy, AreChosen, possibleBy}
-use Rattle.contents.specs.Code.{filledBy, weighBy}
+use Rattle.contents.specs.Code.{filledBy, withTable}
 
 component-lt : (w : Wires) (r : ℕ) → componentBy w r < 16
 unfolding componentBy
@@ -29,22 +29,22 @@ filled-ext w s p q at x same =
     rw (same here (component-lt w (shownBy (s .key) x)))
 
 module _ (w : Wires) (a : Asked) (h : ℕ) where
-  pub weigh-loud : quiet 8 h (w .direct ∷ []) ≡ false → noContents ≡ weighBy w a h
-  unfolding weighBy
-  weigh-loud loud = rw loud
+  pub with-loud : quiet 8 h (w .direct ∷ []) ≡ false → noContents ≡ withTable w a h
+  unfolding withTable
+  with-loud loud = rw loud
 
-  pub weigh-none : holdsBy w a h ≡ false → noContents ≡ weighBy w a h
-  unfolding weighBy
-  weigh-none none = rw (none, and-false (quiet 8 h (w .direct ∷ [])))
+  pub with-none : holdsBy w a h ≡ false → noContents ≡ withTable w a h
+  unfolding withTable
+  with-none none = rw (none, and-false (quiet 8 h (w .direct ∷ [])))
 
-  pub weigh-as : quiet 8 h (w .direct ∷ []) ≡ true → (c : Chosen) → AreChosen w a h c → c .fine ≡ true
+  pub with-as : quiet 8 h (w .direct ∷ []) ≡ true → (c : Chosen) → AreChosen w a h c → c .fine ≡ true
       → (ofRows 16 (filledBy w (w .f) (λ k. getD (c .poles) k 0) 3) * 65536
       + ofRows 16 (filledBy w (w .g) (λ k. getD (c .poles) k 0) 1))
       * 256
       + h
-      ≡ weighBy w a h
-  unfolding weighBy
-  weigh-as hushed c chosen fine =
+      ≡ withTable w a h
+  unfolding withTable
+  with-as hushed c chosen fine =
       let held : holdsBy w a h ≡ true = sym (chosen .holds) ∙ fine in
       rw (hushed, held, rows (w .f) 3, rows (w .g) 1)
     where

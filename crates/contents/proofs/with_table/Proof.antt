@@ -1,21 +1,21 @@
--- `contents::weigh` meets its contract. Assumes nothing.
+-- `contents::with_table` meets its contract. Assumes nothing.
 use mathlib.Core.Path.{sym, _∙_}
 use borrow.Author.Needs.{needs}
 use borrow.Author.Tests.{not-true, not-false}
-use Rattle.contents.proofs.WeighLaws.{weigh-loud, weigh-none, weigh-as}
-use Rattle.contents.proofs.weigh.Statement.{statement}
-use Rattle.contents.proofs.weigh.Tie as tie
+use Rattle.contents.proofs.WithTableLaws.{with-loud, with-none, with-as}
+use Rattle.contents.proofs.with_table.Statement.{statement}
+use Rattle.contents.proofs.with_table.Tie as tie
 
 returns : tie.Need-returns
 returns c =
     let args = c .before .before .args in
-    weigh-loud (args .w) (args .a) (args .h) (sym (c .before .silent .ensures) ∙ not-true _ (c .if1 .taken))
+    with-loud (args .w) (args .a) (args .h) (sym (c .before .silent .ensures) ∙ not-true _ (c .if1 .taken))
 
 returns-2 : tie.Need-returns-2
 returns-2 c =
     let chosen = c .before .before in
     let args = chosen .before .before .before .args in
-    weigh-none (args .w) (args .a) (args .h)
+    with-none (args .w) (args .a) (args .h)
     (sym (chosen .choices .ensures .holds) ∙ not-true _ (c .if2 .taken))
 
 returns-3 : tie.Need-returns-3
@@ -25,12 +25,12 @@ returns-3 c =
     let hushed = chosen .before in
     let args = hushed .before .before .args in
     rw (c .before .table .ensures .0, c .table2 .ensures .0)
-    (weigh-as (args .w) (args .a) (args .h)
+    (with-as (args .w) (args .a) (args .h)
     (sym (hushed .before .silent .ensures) ∙ not-false _ (hushed .if1 .left))
     (chosen .choices .result) (chosen .choices .ensures) (not-false _ (fine .if2 .left)))
 
-pub weigh-spec : {M : Type 1} → statement M
-weigh-spec =
+pub with-table-spec : {M : Type 1} → statement M
+with-table-spec =
     tie.close
     (tie.spec (search needs) returns (search needs) returns-2 (search needs) (search needs)
     (search needs) (search needs) (search needs) (search needs) returns-3)
