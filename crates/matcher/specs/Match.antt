@@ -43,9 +43,12 @@ matchRefusal n t room = firstOf (tableCases n t ++ (5 when noRoom room ∷ []))
 -- What matching promises. With a table of n inputs and room for ten bytes, 4 is given exactly when no
 -- block realises the table; otherwise the ten bytes of the first are written.
 pub data Matched (n : ℕ) (t before after : List ℕ) (r : Written) : Type 0 where
+  -- 1, 2, 3 or 5: its number, no byte changed
   refused : (matchRefusal n t (length before) ≡ 0 → ⊥)
       → Writes (matchRefusal n t (length before)) [] before after r → Matched n t before after r
+  -- 4: no block at all computes the table; no byte changed
   unmatched : matchRefusal n t (length before) ≡ 0 → NoBlock n t → Writes 4 [] before after r
       → Matched n t before after r
+  -- the ten bytes of the first block, no byte after them changed, and 10 as the length in use
   matched : matchRefusal n t (length before) ≡ 0 → (b : Block) → First n t b
       → Writes 0 (packOf b) before after r → Matched n t before after r
