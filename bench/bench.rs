@@ -7,6 +7,7 @@
 //! second matcher once. Every answer is held to that of the file; a difference ends the run with
 //! status 1.
 
+mod numbers;
 #[path = "../tests/second/product.rs"]
 mod product;
 #[path = "../tests/second/second.rs"]

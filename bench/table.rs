@@ -1,28 +1,11 @@
 //! The table of times: a row for each group of functions, the matchers side by side.
 
+use crate::numbers::{median, print_head, print_row, short, worst};
 use crate::{Matcher, Timed};
 
 /// The average of some times.
 fn average(times: &[f64]) -> f64 {
     times.iter().sum::<f64>() / times.len() as f64
-}
-
-/// The middle one of some times, the lower of two.
-fn median(times: &[f64]) -> f64 {
-    let mut sorted = times.to_vec();
-    sorted.sort_by(f64::total_cmp);
-    sorted[(sorted.len() - 1) / 2]
-}
-
-/// The greatest of some times.
-fn worst(times: &[f64]) -> f64 {
-    times.iter().copied().fold(0.0, f64::max)
-}
-
-/// A number in few digits.
-fn short(number: f64) -> String {
-    let digits = if number < 1000.0 { 1 } else { 0 };
-    format!("{number:7.digits$}")
 }
 
 /// The cells of matcher k in the row of a group: average, median, worst, worst first call where
@@ -50,7 +33,7 @@ fn row(matchers: &[Matcher], name: &str, group: &[&Timed]) {
     for k in 0..matchers.len() {
         row.extend(cells(matchers, k, group));
     }
-    println!("| {} |", row.join(" | "));
+    print_row(&row);
 }
 
 /// Prints what the table means, and its head.
@@ -67,9 +50,7 @@ pub fn head(matchers: &[Matcher]) {
         columns.extend((k > 0).then_some("ratio"));
         names.extend(columns.iter().map(|name| format!("{name:>7}")));
     }
-    println!("| {} |", names.join(" | "));
-    let rules: Vec<String> = names.iter().map(|name| "-".repeat(name.len())).collect();
-    println!("| {} |", rules.join(" | "));
+    print_head(&names);
 }
 
 /// Prints the rows of one file: all of it, then no match and match for each n.

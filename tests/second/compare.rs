@@ -12,13 +12,19 @@ mod document;
 mod judge;
 mod made;
 mod product;
+#[path = "../random.rs"]
+mod random;
 mod second;
+#[path = "../seed.rs"]
+mod seed;
 mod vectors;
 mod watched;
 
 use judge::{Judge, Known};
-use made::{Made, Random};
-use std::time::{Instant, SystemTime, UNIX_EPOCH};
+use made::Made;
+use random::Random;
+use seed::seed_from;
+use std::time::Instant;
 
 /// How many functions of each kind are made for each n.
 const OF_EACH: usize = 50;
@@ -91,17 +97,6 @@ fn of_kind(judge: &mut Judge, make: Maker, random: &mut Random) {
             let known = made.block.map_or(Known::Nothing, Known::NotAfter);
             judge.function(n as u8, &made.table, known);
         }
-    }
-}
-
-/// The seed given, or one from the clock.
-fn seed_from(given: Option<String>) -> u64 {
-    match given {
-        Some(digits) => digits.parse().expect("SEED is a number"),
-        None => SystemTime::now()
-            .duration_since(UNIX_EPOCH)
-            .unwrap()
-            .as_nanos() as u64,
     }
 }
 

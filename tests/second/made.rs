@@ -1,10 +1,8 @@
 //! Functions made anew from a seed.
 
 use crate::block::{computed, table_of, tidy};
+use crate::random::Random;
 use crate::second::{bytes, fields_of, DIRECT_ROWS, OPEN};
-
-/// Numbers that follow from a seed.
-pub struct Random(pub u64);
 
 /// A function made, with a tidy block that realises it where one is known.
 pub struct Made {
@@ -13,19 +11,6 @@ pub struct Made {
 }
 
 impl Random {
-    /// The next 64 bits, by the method called SplitMix64.
-    fn bits(&mut self) -> u64 {
-        self.0 = self.0.wrapping_add(0x9E3779B97F4A7C15);
-        let mixed = (self.0 ^ self.0 >> 30).wrapping_mul(0xBF58476D1CE4E5B9);
-        let mixed = (mixed ^ mixed >> 27).wrapping_mul(0x94D049BB133111EB);
-        mixed ^ mixed >> 31
-    }
-
-    /// A number below a limit above 0.
-    fn below(&mut self, limit: usize) -> usize {
-        (self.bits() >> 32) as usize % limit
-    }
-
     /// Some of these variables, `count` of them or all, in any order.
     fn some(&mut self, variables: &[usize], count: usize) -> Vec<usize> {
         let mut left = variables.to_vec();

@@ -1,5 +1,7 @@
-// A question is a name, what is asked, n, and what it is asked of, with one blank between words.
+// A question is a name, what is asked, n, and what it is asked of, with one blank between words. Those
+// about the sheet are in filed.rt.
 ghost use Prim.Native.Nat.{_≤_};
+use crate::filed;
 use crate::say;
 use crate::words;
 use block::FourPin;
@@ -46,7 +48,6 @@ fn pack(n: u8, s: &[u8], room: usize) {
         let mut out = [0xA5u8; 11];
         let answer = codec::pack(n, parts(s), &mut out[0..room]);
         say::written(answer);
-        say::byte(b' ');
         say::eleven(&out);
     }
 }
@@ -58,8 +59,7 @@ fn first(n: u8, t: &[u8]) {
     match answer {
         Written::Length(_) => {
             say::typed(types::type_of(n, &out));
-            say::byte(b' ');
-            say::hexadecimal(&out);
+            say::bytes(&out);
         }
         Written::Refused(_) => say::written(answer),
     }
@@ -70,7 +70,7 @@ fn ask_with(question: &[u8], n: u8, s: &[u8], last: &[u8]) {
     if !words::is_number(last, 10) {
         unknown();
     } else if words::same(question, b"evaluate") {
-        say::evaluated(value::evaluate(n, s, words::decimal(last, 4294967295) as u32));
+        say::evaluated(value::evaluate(n, s, words::number(last)));
     } else if words::same(question, b"pack") {
         pack(n, s, words::decimal(last, 12));
     } else {
@@ -103,19 +103,42 @@ fn asked(question: &[u8], n: &[u8], given: &[u8], last: &[u8]) {
     }
 }
 
-pub(crate) fn line(line: &[u8]) {
-    if 0 < line.len() {
-        say::text(words::before(line, b' '));
-        let question = words::after(line, b' ');
-        let n = words::after(question, b' ');
-        let given = words::after(n, b' ');
-        let last = words::after(given, b' ');
+// The questions that leave the sheet as it is; a line that is none of them may be one about a block.
+fn look(line: &[u8], records: &[u8]) {
+    if filed::asks(line, b"count", 0) {
+        say::told(sheet::check(records));
+    } else if filed::asks(line, b"find", 2) {
+        filed::find(line, records);
+    } else if filed::asks(line, b"place", 2) {
+        filed::place(line, records);
+    } else if filed::asks(line, b"read", 1) {
+        filed::read(line, records);
+    } else {
         asked(
-            words::before(question, b' '),
-            words::before(n, b' '),
-            words::before(given, b' '),
-            last,
+            words::word(line, 1),
+            words::word(line, 2),
+            words::word(line, 3),
+            words::skip(line, 4),
         );
     }
+}
+
+// Answers the length of the sheet that is in use then. An empty line asks nothing.
+fn question(line: &[u8], sheet: &mut [u8], used: usize) -> usize {
+    if line.len() == 0 {
+        return used;
+    }
+    if filed::asks_append(line) {
+        return filed::append(line, sheet, used);
+    }
+    look(line, filed::in_use(sheet, used));
+    used
+}
+
+// Prints the name and the answer, and answers the length of the sheet that is in use then.
+pub(crate) fn line(line: &[u8], sheet: &mut [u8], used: usize) -> usize {
+    say::text(words::word(line, 0));
+    let now = question(line, sheet, used);
     say::byte(b'\n');
+    now
 }

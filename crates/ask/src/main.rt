@@ -1,5 +1,7 @@
-// Answers questions about tables and blocks: one a line on standard input, one line of answer each (README, "Asking").
+// Answers questions about tables, blocks and a sheet: one a line on standard input, one line of answer
+// each (README, "Asking").
 mod answer;
+mod filed;
 mod input;
 mod say;
 mod words;
@@ -10,10 +12,13 @@ fn main() {
     answers(&text[0..used]);
 }
 
+// The sheet has room for sixteen records, and none at the start.
 fn answers(text: &[u8]) {
+    let mut sheet = [0u8; 224];
+    let mut used = 0;
     let mut rest = text;
     while 0 < rest.len() {
-        answer::line(words::before(rest, b'\n'));
+        used = answer::line(words::before(rest, b'\n'), &mut sheet, used);
         let next = words::after(rest, b'\n');
         rest = next;
     }

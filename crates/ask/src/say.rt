@@ -3,8 +3,11 @@ use block::Letter;
 use block::Refusal;
 use block::Written;
 use codec::Checked;
+use finding::Header;
+use finding::Reading;
 use libc::STDERR_FILENO;
 use libc::STDOUT_FILENO;
+use record::Told;
 use types::Typed;
 use value::Evaluated;
 
@@ -35,6 +38,11 @@ fn refusal(k: Refusal) {
     number(block::number(k) as u64);
 }
 
+fn refusal_at(k: Refusal, place: usize) {
+    refusal(k);
+    number(place as u64);
+}
+
 pub(crate) fn checked(answer: Checked) {
     match answer {
         Checked::Fine => number(0),
@@ -53,6 +61,13 @@ pub(crate) fn written(answer: Written) {
     match answer {
         Written::Length(used) => number(used as u64),
         Written::Refused(k) => refusal(k),
+    }
+}
+
+pub(crate) fn told(answer: Told) {
+    match answer {
+        Told::Value(value) => number(value as u64),
+        Told::Refused(k, place) => refusal_at(k, place),
     }
 }
 
@@ -82,14 +97,34 @@ fn digit(x: u8) {
     byte(48 + d + d / 10 * 7);
 }
 
-// Bytes in hexadecimal capitals.
-pub(crate) fn hexadecimal(s: &[u8]) {
+fn hexadecimal(s: &[u8]) {
     for i in 0..s.len() {
         digit(s[i] / 16);
         digit(s[i]);
     }
 }
 
-pub(crate) fn eleven(s: &[u8; 11]) {
+// Bytes in hexadecimal capitals.
+pub(crate) fn bytes(s: &[u8]) {
+    byte(b' ');
     hexadecimal(s);
+}
+
+pub(crate) fn eleven(s: &[u8; 11]) {
+    bytes(s);
+}
+
+// The numbers of a record and its ten bytes.
+pub(crate) fn reading(answer: Reading) {
+    let header = answer.header;
+    let ten = answer.ten;
+    match header {
+        Header::Is(x) => {
+            number(x.craft as u64);
+            number(x.block as u64);
+            number(x.n as u64);
+            bytes(&ten);
+        }
+        Header::Refused(k, place) => refusal_at(k, place),
+    }
 }

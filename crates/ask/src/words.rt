@@ -3,7 +3,7 @@ ghost use mathlib.Core.Path.{_≡_};
 ghost use Prim.Native.Nat.{_-_, _≤_, min};
 ghost use lib.ListN.{length};
 
-fn least(a: usize, b: usize) -> usize
+pub(crate) fn least(a: usize, b: usize) -> usize
     ensures { λ r. ⌜ r ≡ min a b ⌝ }
 {
     if a < b { a } else { b }
@@ -37,6 +37,21 @@ pub(crate) fn after(s: &[u8], byte: u8) -> &[u8]
     &s[start..]
 }
 
+// What stands after so many words, which are apart by one blank.
+pub(crate) fn skip(s: &[u8], count: usize) -> &[u8] {
+    let mut rest = s;
+    for _ in 0..count {
+        let next = after(rest, b' ');
+        rest = next;
+    }
+    rest
+}
+
+// The word at a place, counted from 0; empty past the end.
+pub(crate) fn word(s: &[u8], i: usize) -> &[u8] {
+    before(skip(s, i), b' ')
+}
+
 pub(crate) fn same(a: &[u8], b: &[u8]) -> bool {
     for i in 0..a.len() {
         if a[i] != at(b, i) {
@@ -66,6 +81,16 @@ pub(crate) fn is_number(word: &[u8], base: u8) -> bool {
     0 < word.len()
 }
 
+// Whether the words from one place up to another are decimal numbers.
+pub(crate) fn are_numbers(s: &[u8], from: usize, to: usize) -> bool {
+    for i in from..to {
+        if !is_number(word(s, i), 10) {
+            return false;
+        }
+    }
+    true
+}
+
 // Whether the word is whole bytes in hexadecimal, or empty.
 pub(crate) fn is_bytes(word: &[u8]) -> bool {
     (word.len() == 0) | ((word.len() % 2 == 0) & is_number(word, 16))
@@ -80,6 +105,11 @@ pub(crate) fn decimal(word: &[u8], most: u32) -> usize
         value = least(value * 10 + digit(word[i]) as usize, most as usize);
     }
     value
+}
+
+// The same, with the greatest u32 as the most.
+pub(crate) fn number(word: &[u8]) -> u32 {
+    decimal(word, 4294967295) as u32
 }
 
 // The value of a hexadecimal digit: 0 stands at 0x30, A at 0x41.

@@ -7,7 +7,7 @@ use native.Mathlib.Nat.{not-suc-le-zero, zero-lt-suc, le-of-suc-le-suc, lt-trans
 use lib.Dec.{eqb, ltb}
 use lib.ListN.{length, getD}
 use borrow.Author.Tests.{eq-eqb, eqb-true, ltb-true}
-use Rattle.bits.specs.Tests.{every, member}
+use Rattle.bits.specs.Tests.{every, member, alike}
 use Rattle.bits.proofs.TestLaws.{both-left, both-right, or-cases}
 
 pub every-at : (f : ℕ → Bool) (s : List ℕ) → every f s ≡ true → (k : ℕ) → k < length s
@@ -89,13 +89,6 @@ module _ (f : ℕ → ℕ) where
   rises-at low (x ∷ s) h (suc i) (suc j) l m =
       rises-at (f x) s (rest-rises low x s h) i j (le-of-suc-le-suc l) (le-of-suc-le-suc m)
 
--- two lists have the same entries
-abbrev pub alike : List ℕ → List ℕ → Bool
-alike [] [] = true
-alike [] (y ∷ t) = false
-alike (x ∷ s) [] = false
-alike (x ∷ s) (y ∷ t) = eqb x y && alike s t
-
 pub alike-eq : (s t : List ℕ) → alike s t ≡ true → s ≡ t
 alike-eq [] [] h = refl
 alike-eq [] (y ∷ t) h = cc
@@ -103,3 +96,7 @@ alike-eq (x ∷ s) [] h = cc
 alike-eq (x ∷ s) (y ∷ t) h =
     let heads = eqb-true x y (both-left (eqb x y) (alike s t) h) in
     cc (heads, alike-eq s t (both-right (eqb x y) (alike s t) h))
+
+pub alike-self : (s : List ℕ) → alike s s ≡ true
+alike-self [] = refl
+alike-self (x ∷ s) = rw (eq-eqb x x refl, alike-self s)

@@ -1,5 +1,5 @@
 -- Bits of a number; rows and fields, most significant first. Assumes nothing.
-use Prim.Native.Nat.{ℕ, zero, suc, _+_, _-_, _*_, _/_, _%_, _^_}
+use Prim.Native.Nat.{ℕ, zero, suc, _+_, _-_, _*_, _/_, _%_, _^_, _<_}
 use mathlib.Core.Bool.{Bool, true, false}
 use mathlib.Core.List.{List, [], _∷_}
 use lib.Dec.{eqb}
@@ -64,3 +64,7 @@ abbrev pub bytesOf : List ℕ → List ℕ
 bytesOf [] = []
 bytesOf (high ∷ []) = (high * 16) ∷ []
 bytesOf (high ∷ low ∷ fields) = (high * 16 + low) ∷ bytesOf fields
+
+-- every element is a byte
+abbrev pub Bytes : List ℕ → Type 0
+Bytes s = (k : ℕ) → getD s k 0 < 256

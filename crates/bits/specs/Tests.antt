@@ -44,3 +44,10 @@ every f (x ∷ xs) = f x && every f xs
 abbrev pub member : ℕ → List ℕ → Bool
 member v [] = false
 member v (x ∷ xs) = eqb v x || member v xs
+
+-- two lists have the same entries
+abbrev pub alike : List ℕ → List ℕ → Bool
+alike [] [] = true
+alike [] (y ∷ t) = false
+alike (x ∷ s) [] = false
+alike (x ∷ s) (y ∷ t) = eqb x y && alike s t

@@ -8,13 +8,12 @@ use borrow.Author.Tests.{lt-ltb, le-ltb, eq-eqb, ne-eqb, ltb-false, eqb-true, no
 use Rattle.block.specs.declared.Refusal.{Refusal}
 use Rattle.block.specs.Block.{Block}
 use Rattle.block.specs.Code.{zeroBlock}
-use Rattle.block.specs.Tidy.{Tidy}
 use Rattle.block.specs.Refusal.{_when_, firstOf, numberOf, tooManyInputs, tidyCases, tidyRefusal}
 use Rattle.block.specs.Answer.{answer, answered}
 use Rattle.block.proofs.RefusalLaws.{at-refusal, orElse, orElse-zero, first-append, pick-zero}
 use Rattle.block.proofs.RefusalLaws.{tidy-of-none, none-of-tidy}
 use Rattle.codec.specs.Ten.{unpackOf, lastBits}
-use Rattle.codec.specs.Check.{wrongLength, lastBitsSet, lastRefusal, checkRefusal}
+use Rattle.codec.specs.Check.{wrongLength, lastBitsSet, lastRefusal, checkRefusal, Accepted}
 use Rattle.codec.specs.Answers.{unpackAnswer}
 
 pub last-set : (s : List ℕ) (b : Block) → (lastBits s ≡ 0 → ⊥)
@@ -56,13 +55,6 @@ module _ (n : ℕ) (s : List ℕ) where
           → answered (lastRefusal s) zeroBlock (unpackOf s) ≡ unpackAnswer n s
       unfolding unpackAnswer
       leaves-last e = rw (refusal-parts, ← e)
-
--- what the checker accepts
-pub record Accepted (n : ℕ) (s : List ℕ) : Type 0 where
-  pub within : n ≤ 9
-  pub ten : length s ≡ 10
-  pub tidy : Tidy n (unpackOf s)
-  pub last : lastBits s ≡ 0
 
 pub accepted-of-none : (n : ℕ) (s : List ℕ) → checkRefusal n s ≡ 0 → Accepted n s
 unfolding checkRefusal tidyRefusal

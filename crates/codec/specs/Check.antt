@@ -1,10 +1,13 @@
 -- Which refusal a block gets, the first that applies in document 01's order. Assumes nothing.
-use Prim.Native.Nat.{ℕ}
+use Prim.Native.Nat.{ℕ, _≤_}
+use mathlib.Core.Path.{_≡_}
 use mathlib.Core.Bool.{Bool, not}
 use mathlib.Core.List.{List, [], _∷_}
 use lib.Dec.{eqb, ltb}
 use lib.ListN.{length}
 use Rattle.block.specs.Block.{Block}
+use Rattle.block.specs.Table.{mostInputs}
+use Rattle.block.specs.Tidy.{Tidy}
 use Rattle.block.specs.Refusal.{Case, _when_, firstOf, tooManyInputs, strayField, outOfOrder}
 use Rattle.block.specs.Refusal.{openRowSet}
 use Rattle.codec.specs.Ten.{blockBytes, unpackOf, lastBits}
@@ -50,3 +53,10 @@ packRefusal n b room =
     ∷ 8 when openRowSet b
     ∷ 5 when noRoom room
     ∷ [])
+
+-- what the rules ask of a block's bytes: that they are the ten bytes of a tidy block of n inputs
+pub record Accepted (n : ℕ) (s : List ℕ) : Type 0 where
+  pub within : n ≤ mostInputs
+  pub ten : length s ≡ blockBytes
+  pub tidy : Tidy n (unpackOf s)
+  pub last : lastBits s ≡ 0

@@ -8,17 +8,18 @@ use Rattle.block.specs.declared.Written.{Written}
 use Rattle.block.specs.declared.Written.the-variants.{Length, Refused}
 use Rattle.block.specs.declared.Refusal.{Refusal}
 use Rattle.block.specs.Refusal.{numberOf}
-use Rattle.block.specs.Answer.{writtenOf}
+use Rattle.block.specs.Answer.{Answer, writtenOf}
 use Rattle.block.proofs.AnswerLaws.{answered-parts}
-use Rattle.codec.specs.Ten.{packOf}
+use Rattle.codec.specs.Ten.{blockBytes, packOf}
 use Rattle.round.proofs.PackedLaws.{packed-ten}
 use Rattle.matcher.specs.Match.{matchRefusal, Matched, refused, unmatched, matched}
 use Rattle.matcher.proofs.UniqueMatch.{match-unique, acceptable}
-use Rattle.drawmitten_c.specs.Boundary.{answerWord, MatchesC}
+use Rattle.record.specs.Told.{Placed}
+use Rattle.drawmitten_c.specs.Boundary.{answerWord, MatchesC, WrittenC}
 
--- a match has the length 10
+-- a match has the length of a block
 pub matched-length : (n : ℕ) (t before after : List ℕ) (r : Written) (used : ℕ) → r ≡ Length used
-    → Matched n t before after r → used ≡ 10
+    → Matched n t before after r → used ≡ blockBytes
 matched-length n t before after r used e (refused some w) =
     absurd (some (answered-parts (matchRefusal n t (length before)) 0 0 used (ap writtenOf (sym e) ∙ w .told) .0))
 matched-length n t before after r used e (unmatched none never w) =
@@ -42,3 +43,9 @@ pub word-refused : (n : ℕ) (t before after : List ℕ) (r : Written) (k : Refu
     → number ≡ numberOf k → Matched n t before after r → MatchesC n t before after number
 word-refused n t before after r k number e told m =
     record { answer = r; matched = m; word = told ∙ rw e (omega arith) }
+
+-- what is written, and the number, are one
+pub written-c-unique : (answer : Answer (Placed ℕ)) (buffer after after' : List ℕ) (r q : ℕ)
+    → WrittenC answer buffer after r → WrittenC answer buffer after' q → (r ≡ q) × (after ≡ after')
+written-c-unique answer buffer after after' r q p p' =
+    (p .word ∙ sym (p' .word), p .kept ∙ sym (p' .kept))

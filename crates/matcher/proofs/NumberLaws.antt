@@ -11,7 +11,7 @@ use Rattle.bits.proofs.FieldLaws.{joined-split, joined-append, joined-four, fou
 use Rattle.block.specs.Block.{Block, Device}
 use Rattle.codec.specs.Ten.{fieldsOf, packOf}
 use Rattle.codec.specs.Order.{comesBefore}
-use Rattle.round.specs.Bytes.{Acceptable}
+use Rattle.round.specs.Acceptable.{Acceptable}
 use Rattle.round.proofs.OrderLaws.{bytesNumber, comesBefore-number}
 
 -- the nine pin fields as one number

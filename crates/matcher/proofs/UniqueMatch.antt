@@ -15,7 +15,7 @@ use Rattle.block.specs.Block.{Block}
 use Rattle.block.proofs.AnswerLaws.{written-unique}
 use Rattle.codec.specs.Ten.{packOf}
 use Rattle.codec.specs.Order.{before, comesBefore}
-use Rattle.round.specs.Bytes.{Acceptable}
+use Rattle.round.specs.Acceptable.{Acceptable}
 use Rattle.round.proofs.PackedLaws.{packed-ten}
 use Rattle.matcher.specs.Match.{TidyMatch, First, matchRefusal, Matched}
 use Rattle.matcher.specs.Match.{refused, unmatched, matched}

@@ -9,6 +9,7 @@ use native.Mathlib.Omega.{arith}
 use lib.Dec.{eqb, ltb}
 use lib.ListN.{length}
 use borrow.Author.Tests.{ltb-true, ltb-false, eqb-true, eqb-false, lt-ltb, le-ltb}
+use Rattle.bits.specs.Bits.{Bytes}
 use Rattle.bits.specs.Tests.{every}
 use Rattle.bits.proofs.TestLaws.{both-left, both-right}
 use Rattle.bits.proofs.FieldLaws.{field-lt}
@@ -18,7 +19,7 @@ use Rattle.block.specs.Code.{blockOf}
 use Rattle.codec.specs.Ten.{packOf, FieldsOfFour}
 use Rattle.codec.specs.Order.{before, comesBefore}
 use Rattle.codec.proofs.UnpackLaws.{partsOf}
-use Rattle.round.specs.Bytes.{Bytes, Acceptable}
+use Rattle.round.specs.Acceptable.{Acceptable}
 use Rattle.round.proofs.RoundLaws.{device-parts}
 use Rattle.round.proofs.PackedLaws.{small, packed-ten}
 

@@ -6,6 +6,7 @@ use mathlib.Core.List.{List}
 use Prim.Native.Nat.{ℕ, _<_, _≤_}
 use native.Mathlib.Omega.{arith}
 use lib.ListN.{length}
+use Rattle.bits.specs.Bits.{Bytes}
 use Rattle.block.specs.declared.Parts.{Parts}
 use Rattle.block.specs.Block.{Block, Device}
 use Rattle.block.specs.Code.{blockOf}
@@ -14,16 +15,16 @@ use Rattle.block.specs.Tidy.{fieldsFit}
 use Rattle.block.specs.Value.{blockValue}
 use Rattle.block.specs.Answer.{answer}
 use Rattle.codec.specs.Ten.{packOf, unpackOf, lastBits, FieldsOfFour}
-use Rattle.codec.specs.Check.{checkRefusal, packRefusal}
+use Rattle.codec.specs.Check.{checkRefusal, packRefusal, Accepted}
 use Rattle.codec.specs.Answers.{unpackAnswer}
 use Rattle.codec.proofs.UnpackLaws.{partsOf}
-use Rattle.codec.proofs.CheckLaws.{Accepted, accepted-of-none, none-of-accepted}
+use Rattle.codec.proofs.CheckLaws.{accepted-of-none, none-of-accepted}
 use Rattle.codec.proofs.PackLaws.{fields-of-four, pack-accepts, packable-of-none}
 use Rattle.codec.proofs.TenLaws.{packed-length}
 use Rattle.block.proofs.RefusalLaws.{none-of-tidy}
 use Rattle.value.specs.Evaluate.{evaluateAnswer}
 use Rattle.value.proofs.EvaluateLaws.{gives-bit, leaves-row}
-use Rattle.round.specs.Bytes.{Bytes, Acceptable}
+use Rattle.round.specs.Acceptable.{Acceptable}
 use Rattle.round.proofs.RoundLaws.{device-parts, parts-again, bytes-again}
 
 last-clear : (x : Parts) → lastBits (packOf (blockOf x)) ≡ 0

@@ -5,7 +5,7 @@ use mathlib.Core.List.{List, [], _∷_, _++_}
 use Prim.Native.Nat.{ℕ, suc, _+_, _*_, _/_, _%_, _<_}
 use native.Mathlib.Omega.{arith}
 use lib.ListN.{length, getD}
-use Rattle.bits.specs.Bits.{nibble, nibbles, joined, split, bytesOf}
+use Rattle.bits.specs.Bits.{nibble, nibbles, joined, split, bytesOf, Bytes}
 use Rattle.bits.proofs.FieldLaws.{field-lt, nibble-lt, high-field, low-field, same-byte, joined-split}
 use Rattle.bits.proofs.FieldLaws.{split-four, split-two, four-of, ten-of}
 use Rattle.block.specs.declared.Parts.{Parts}
@@ -13,7 +13,6 @@ use Rattle.block.specs.Block.{Block, Device}
 use Rattle.block.specs.Code.{blockOf}
 use Rattle.codec.specs.Ten.{packOf, fieldsOf, unpackOf, lastBits, FieldsOfFour}
 use Rattle.codec.proofs.UnpackLaws.{partsOf}
-use Rattle.round.specs.Bytes.{Bytes}
 
 -- a block of the device is its parts
 pub device-parts : (b : Block) → Device b → blockOf (partsOf b) ≡ b

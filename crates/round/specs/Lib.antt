@@ -1,2 +1,2 @@
 -- What the laws of the round trip speak of. Assumes nothing.
-pub mod Bytes
+pub mod Acceptable

@@ -9,7 +9,7 @@ use lib.Dec.{eqb}
 use lib.ListN.{length, getD}
 use borrow.Author.Tests.{eqb-true, le-leb}
 use Rattle.bits.specs.Bits.{has}
-use Rattle.bits.specs.Tests.{below, every, pick}
+use Rattle.bits.specs.Tests.{below, every, pick, alike}
 use Rattle.block.specs.Block.{isOpen}
 use Rattle.block.specs.Table.{mostInputs}
 use Rattle.block.specs.Tidy.{fieldFits, ordered}
@@ -17,7 +17,7 @@ use Rattle.block.specs.Kind.{carries}
 use Rattle.subsets.specs.Masks.{variablesFrom, variablesIn, pinsOfMask, Small, TidyChoice, masks}
 use Rattle.block.proofs.TidyLaws.{fits-lt}
 use Rattle.bits.proofs.TestLaws.{same-bool, both-left, both-right, implied, below-at}
-use Rattle.bits.proofs.ListLaws.{every-at, alike, alike-eq}
+use Rattle.bits.proofs.ListLaws.{every-at, alike-eq}
 use Rattle.bits.proofs.FieldLaws.{four-of}
 use Rattle.subsets.proofs.MaskLaws.{atMostFour, small, small→Small, masks-rule}
 

@@ -1,0 +1,2 @@
+-- A record added to a sheet. Assumes nothing.
+pub mod Append
