@@ -52,7 +52,7 @@ fn pack(n: u8, s: &[u8], room: usize) {
     }
 }
 
-// The type of the first block that computes the table, and its ten bytes.
+// The type of the first tidy block that computes the table, and its ten bytes.
 fn first(n: u8, t: &[u8]) {
     let mut out = [0u8; 10];
     let answer = matcher::first_match(n, t, &mut out);

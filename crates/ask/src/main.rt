@@ -2,14 +2,20 @@
 // each (README, "Asking").
 mod answer;
 mod filed;
-mod input;
 mod say;
 mod words;
 
+use input::Input;
+use libc::STDIN_FILENO;
+
 fn main() {
     let mut text = [0u8; 49152];
-    let used = input::all(&mut text);
-    answers(&text[0..used]);
+    let got = input::read(STDIN_FILENO, &mut text);
+    match got {
+        Input::Whole(used) => answers(&text[0..used]),
+        Input::Longer => say::too_long(),
+        Input::Failed => say::unreadable(),
+    }
 }
 
 // The sheet has room for sixteen records, and none at the start.

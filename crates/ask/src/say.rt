@@ -1,5 +1,4 @@
 // What is printed: answers, and what went wrong.
-use block::Letter;
 use block::Refusal;
 use block::Written;
 use codec::Checked;
@@ -71,20 +70,12 @@ pub(crate) fn told(answer: Told) {
     }
 }
 
-fn letter(l: Letter) {
-    match l {
-        Letter::A => byte(b'A'),
-        Letter::B => byte(b'B'),
-        Letter::C => byte(b'C'),
-    }
-}
-
 pub(crate) fn typed(answer: Typed) {
     match answer {
         Typed::Is(k) => {
             let l = k.letter;
             byte(b' ');
-            letter(l);
+            byte(types::letter_code(l));
             byte(b'-');
             io::print_decimal(STDOUT_FILENO, k.digit as u64);
         }

@@ -58,23 +58,34 @@ one-and n q l =
     let some = count-some n q l (omega arith) in
     rw e (sym (lt-leb (1 + count (has q) n) 1 (omega arith))))
 
+-- the lowest bit of an odd number is its units bit
+and-odd : (x : ℕ) → x % 2 ≡ 1 → bitAnd x (x - 1) ≡ x / 2 * 2
+and-odd x odd =
+    let half : (x - 1) / 2 ≡ x / 2 = omega arith in
+    let even : (x - 1) % 2 ≡ 0 = omega arith in
+    let halves = rw (half, even, odd, and-self (x / 2)) at (and-step x (x - 1)) in
+    omega (arith, halves)
+
+-- that of an even one is that of its half
+and-even : (x : ℕ) → 0 < x → x % 2 ≡ 0 → bitAnd x (x - 1) ≡ bitAnd (x / 2) (x / 2 - 1) * 2
+and-even x p even =
+    let half : (x - 1) / 2 ≡ x / 2 - 1 = omega arith in
+    let halves = rw (half, even) at (and-step x (x - 1)) in
+    omega (arith, halves)
+
 pub one-bit : (n x : ℕ) → x < 2 ^ n → 0 < x → eqb (bitAnd x (x - 1)) 0 ≡ leb (count (has x) n) 1
 one-bit zero x l p = absurd (omega arith)
 one-bit (suc n) x l p =
-    let step = and-step x (x - 1) in
+    let less : x / 2 < 2 ^ n = omega arith in
     rw (count-half x n)
     (byBool (eqb (x % 2) 1)
     (λ e.
     let odd = eqb-true (x % 2) 1 e in
-    let half : (x - 1) / 2 ≡ x / 2 = omega arith in
-    let even : (x - 1) % 2 ≡ 0 = omega arith in
-    let halves = rw (half, even, odd, and-self (x / 2)) at step in
-    rw odd (doubled (bitAnd x (x - 1)) (x / 2) (omega arith) ∙ one-and n (x / 2) (omega arith)))
+    rw odd (doubled (bitAnd x (x - 1)) (x / 2) (and-odd x odd) ∙ one-and n (x / 2) less))
     (λ e.
     let other = eqb-false (x % 2) 1 e in
     let even : x % 2 ≡ 0 = omega arith in
-    let half : (x - 1) / 2 ≡ x / 2 - 1 = omega arith in
-    let halves = rw (half, even) at step in
-    let rest = one-bit n (x / 2) (omega arith) (omega arith) in
     let none : 0 + count (has (x / 2)) n ≡ count (has (x / 2)) n = omega arith in
-    rw (even, none) (doubled (bitAnd x (x - 1)) (bitAnd (x / 2) (x / 2 - 1)) (omega arith) ∙ rest)))
+    rw (even, none)
+    (doubled (bitAnd x (x - 1)) (bitAnd (x / 2) (x / 2 - 1)) (and-even x p even)
+    ∙ one-bit n (x / 2) less (omega arith))))

@@ -1,51 +1,112 @@
 -- What stands in the 64 bits, and that they leave one answer. Assumes nothing.
 use mathlib.Core.Path.{_≡_, sym, ap, _∙_}
 use mathlib.Core.List.{List}
-use Prim.Native.Nat.{ℕ, _*_}
+use Prim.Native.Nat.{ℕ, zero, suc, _+_, _*_, _/_, _%_, _<_, _≤_}
 use native.Mathlib.Omega.{arith}
 use lib.ListN.{length}
 use Rattle.block.specs.declared.Written.{Written}
-use Rattle.block.specs.declared.Written.the-variants.{Length, Refused}
+use Rattle.block.specs.declared.Parts.{Parts}
 use Rattle.block.specs.declared.Refusal.{Refusal}
+use Rattle.block.specs.declared.Refusal.the-variants.{R1, R2, R3, R4, R5, R6, R7, R8, R9, R10}
+use Rattle.block.specs.declared.Refusal.the-variants.{R11, R12, R13}
+use Rattle.block.specs.declared.Letter.{Letter}
+use Rattle.block.specs.declared.Letter.the-variants.{A, B, C}
+use Rattle.block.specs.Block.{Block}
+use Rattle.block.specs.Kind.{letterCode}
 use Rattle.block.specs.Refusal.{numberOf}
-use Rattle.block.specs.Answer.{Answer, writtenOf}
-use Rattle.block.proofs.AnswerLaws.{answered-parts}
-use Rattle.codec.specs.Ten.{blockBytes, packOf}
+use Rattle.block.specs.Code.{blockOf}
+use Rattle.block.specs.Answer.{Answer, answered, writtenOf, Writes}
+use Rattle.codec.specs.Ten.{blockBytes}
+use Rattle.codec.specs.Answers.{Packs}
+use Rattle.codec.proofs.TenLaws.{packed-length}
+use Rattle.codec.proofs.PackLaws.{pack-unique}
 use Rattle.round.proofs.PackedLaws.{packed-ten}
-use Rattle.matcher.specs.Match.{matchRefusal, Matched, refused, unmatched, matched}
+use Rattle.matcher.specs.Match.{Matched, refused, unmatched, matched}
 use Rattle.matcher.proofs.UniqueMatch.{match-unique, acceptable}
+use Rattle.record.specs.Record.{Record}
 use Rattle.record.specs.Told.{Placed}
-use Rattle.drawmitten_c.specs.Boundary.{answerWord, MatchesC, WrittenC}
+use Rattle.drawmitten_c.specs.Boundary.{answerWord, Worded, MatchesC, PacksC, WrittenC}
+use Rattle.drawmitten_c.specs.Boundary.{CopiesC, AppendsC}
 
--- a match has the length of a block
-pub matched-length : (n : ℕ) (t before after : List ℕ) (r : Written) (used : ℕ) → r ≡ Length used
-    → Matched n t before after r → used ≡ blockBytes
-matched-length n t before after r used e (refused some w) =
-    absurd (some (answered-parts (matchRefusal n t (length before)) 0 0 used (ap writtenOf (sym e) ∙ w .told) .0))
-matched-length n t before after r used e (unmatched none never w) =
-    let z = answered-parts 4 0 0 used (ap writtenOf (sym e) ∙ w .told) .0 in omega arith
-matched-length n t before after r used e (matched none b p w) =
-    answered-parts 0 0 (length (packOf b)) used (ap writtenOf (sym e) ∙ w .told) .1
-    ∙ packed-ten n b (acceptable n t (length before) none b (p .matches))
+-- the low 8 bits are the number, the bits above them the other part; so for a letter and its digit
+pub word-apart : (number part : ℕ) → number < 256
+    → ((number + part * 256) % 256 ≡ number) × ((number + part * 256) / 256 ≡ part)
+word-apart number part small = (omega arith, omega arith)
+
+-- every refusal's number, and every letter, is of 8 bits
+pub number-small : (k : Refusal) → numberOf k < 256
+number-small R1 = omega arith
+number-small R2 = omega arith
+number-small R3 = omega arith
+number-small R4 = omega arith
+number-small R5 = omega arith
+number-small R6 = omega arith
+number-small R7 = omega arith
+number-small R8 = omega arith
+number-small R9 = omega arith
+number-small R10 = omega arith
+number-small R11 = omega arith
+number-small R12 = omega arith
+number-small R13 = omega arith
+
+pub letter-small : (l : Letter) → letterCode l < 256
+letter-small A = omega arith
+letter-small B = omega arith
+letter-small C = omega arith
+
+part-fits : (refusal size : ℕ) → size ≤ blockBytes → answered refusal 0 size .parts ≤ blockBytes
+part-fits zero size fits = fits
+part-fits (suc k) size fits = omega arith
+
+-- the length in use of a writer that has at most a block's bytes
+writes-fit : (refusal : ℕ) (bytes before after : List ℕ) (r : Written)
+    → Writes refusal bytes before after r → length bytes ≤ blockBytes
+    → writtenOf r .parts ≤ blockBytes
+writes-fit refusal bytes before after r w fits = rw (w .told) (part-fits refusal (length bytes) fits)
+
+-- a matcher and a packer are such writers
+pub match-fits : (n : ℕ) (t before after : List ℕ) (r : Written) → Matched n t before after r
+    → writtenOf r .parts ≤ blockBytes
+match-fits n t before after r (refused some w) = writes-fit _ _ _ _ r w (omega arith)
+match-fits n t before after r (unmatched none never w) = writes-fit _ _ _ _ r w (omega arith)
+match-fits n t before after r (matched none b p w) =
+    let ten = packed-ten n b (acceptable n t (length before) none b (p .matches)) in
+    writes-fit _ _ _ _ r w (omega arith)
+
+pub pack-fits : (n : ℕ) (x : Parts) (before after : List ℕ) (r : Written)
+    → Packs n (blockOf x) before after r → writtenOf r .parts ≤ blockBytes
+pack-fits n x before after r w =
+    let ten = packed-length x in writes-fit _ _ _ _ r w (omega arith)
+
+-- two promises that leave one answer and one buffer leave one number
+worded-unique : (P P' : Written → Type 0) (after after' : List ℕ) (r q : ℕ)
+    → ((a b : Written) → P a → P' b → (a ≡ b) × (after ≡ after'))
+    → Worded P r → Worded P' q → (r ≡ q) × (after ≡ after')
+worded-unique P P' after after' r q unique p p' =
+    let same = unique (p .answer) (p' .answer) (p .promised) (p' .promised) in
+    (p .word ∙ ap (λ (w : Written). answerWord (writtenOf w)) (same .0) ∙ sym (p' .word), same .1)
 
 pub match-c-unique : (n : ℕ) (t before after after' : List ℕ) (r q : ℕ)
     → MatchesC n t before after r → MatchesC n t before after' q → (r ≡ q) × (after ≡ after')
-match-c-unique n t before after after' r q p p' =
-    let same = match-unique n t before after after' (p .answer) (p' .answer) (p .matched) (p' .matched) in
-    (p .word ∙ ap (λ (w : Written). answerWord (writtenOf w)) (same .0) ∙ sym (p' .word), same .1)
+match-c-unique n t before after after' r q =
+    worded-unique _ _ after after' r q (match-unique n t before after after')
 
--- the two cases of the answer as a number
-pub word-length : (n : ℕ) (t before after : List ℕ) (r : Written) (used : ℕ) → r ≡ Length used
-    → Matched n t before after r → MatchesC n t before after (used * 256)
-word-length n t before after r used e m = record { answer = r; matched = m; word = rw e (omega arith) }
-
-pub word-refused : (n : ℕ) (t before after : List ℕ) (r : Written) (k : Refusal) (number : ℕ) → r ≡ Refused k
-    → number ≡ numberOf k → Matched n t before after r → MatchesC n t before after number
-word-refused n t before after r k number e told m =
-    record { answer = r; matched = m; word = told ∙ rw e (omega arith) }
+pub pack-c-unique : (n : ℕ) (b : Block) (before after after' : List ℕ) (r q : ℕ)
+    → PacksC n b before after r → PacksC n b before after' q → (r ≡ q) × (after ≡ after')
+pack-c-unique n b before after after' r q =
+    worded-unique _ _ after after' r q (pack-unique n b before after after')
 
 -- what is written, and the number, are one
-pub written-c-unique : (answer : Answer (Placed ℕ)) (buffer after after' : List ℕ) (r q : ℕ)
+written-c-unique : (answer : Answer (Placed ℕ)) (buffer after after' : List ℕ) (r q : ℕ)
     → WrittenC answer buffer after r → WrittenC answer buffer after' q → (r ≡ q) × (after ≡ after')
 written-c-unique answer buffer after after' r q p p' =
     (p .word ∙ sym (p' .word), p .kept ∙ sym (p' .kept))
+
+pub copies-c-unique : (s : List ℕ) (place : ℕ) (before after after' : List ℕ) (r q : ℕ)
+    → CopiesC s place before after r → CopiesC s place before after' q → (r ≡ q) × (after ≡ after')
+copies-c-unique s place before = written-c-unique _ _
+
+pub append-c-unique : (before : List ℕ) (used : ℕ) (x : Record) (after after' : List ℕ) (r q : ℕ)
+    → AppendsC before used x after r → AppendsC before used x after' q
+    → (r ≡ q) × (after ≡ after')
+append-c-unique before used x = written-c-unique _ _

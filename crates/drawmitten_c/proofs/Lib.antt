@@ -1,3 +1,3 @@
 -- The laws of the C boundary. Assumes nothing.
 pub mod BoundaryLaws
-pub mod SmallLaws
+pub mod SizeLaws

@@ -2,10 +2,15 @@
 -- above. Assumes nothing.
 use Prim.Native.Nat.{ℕ, _+_, _*_, _^_, _<_}
 use mathlib.Core.Path.{_≡_}
-use mathlib.Core.List.{List}
-use lib.ListN.{length}
+use mathlib.Core.List.{List, [], _∷_}
+use lib.ListN.{length, getD}
 use Rattle.block.specs.declared.Written.{Written}
+use Rattle.block.specs.Block.{Lut, Block}
 use Rattle.block.specs.Answer.{Answer, writtenOf}
+use Rattle.codec.specs.Check.{checkRefusal}
+use Rattle.codec.specs.Answers.{Packs}
+use Rattle.value.specs.Evaluate.{evaluateAnswer}
+use Rattle.types.specs.Typing.{typeAnswer}
 use Rattle.matcher.specs.Match.{Matched}
 use Rattle.record.specs.Record.{Record, pairOf}
 use Rattle.record.specs.Told.{Placed}
@@ -14,22 +19,64 @@ use Rattle.finding.specs.Find.{placeAnswer}
 use Rattle.finding.specs.Read.{copyAnswer, copiedInto}
 use Rattle.append.specs.Append.{appendAnswer, sheetAfter}
 
--- the length in use
+-- of an answer with one other part: the length in use, or the bit
 abbrev pub answerWord : Answer ℕ → ℕ
 answerWord a = a .number + a .parts * 256
 
--- the number stands for an answer that matching promises
-pub record MatchesC (n : ℕ) (t before after : List ℕ) (r : ℕ) : Type 0 where
+-- the number stands for an answer that a writer promises
+pub record Worded (Promised : Written → Type 0) (r : ℕ) : Type 0 where
   pub answer : Written
-  pub matched : Matched n t before after answer
+  pub promised : Promised answer
   pub word : r ≡ answerWord (writtenOf answer)
+
+-- the ten bytes of the first match in a lent buffer, and the length in use
+abbrev pub MatchesC : (n : ℕ) (t before after : List ℕ) (r : ℕ) → Type 0
+MatchesC n t before after r = Worded (Matched n t before after) r
+
+-- the number alone
+abbrev pub ChecksC : (n : ℕ) (s : List ℕ) (r : ℕ) → Type 0
+ChecksC n s r = r ≡ checkRefusal n s
+
+-- the value's bit
+abbrev pub EvaluatesC : (n : ℕ) (s : List ℕ) (row r : ℕ) → Type 0
+EvaluatesC n s row r = r ≡ answerWord (evaluateAnswer n s row)
+
+-- of a type: its letter in ASCII in 8 bits, and above them its digit
+abbrev pub typeWord : Answer (ℕ × ℕ) → ℕ
+typeWord a = a .number + (a .parts .0 + a .parts .1 * 256) * 256
+
+-- letter and digit
+abbrev pub TypesC : (n : ℕ) (s : List ℕ) (r : ℕ) → Type 0
+TypesC n s r = r ≡ typeWord (typeAnswer n s)
+
+-- a table whose four pins are the four fields from field `at` on
+abbrev pub lutFrom : (fields : List ℕ) (at rows : ℕ) → Lut
+lutFrom fields at rows =
+    record {
+      pins =
+          getD fields at 0
+          ∷ getD fields (at + 1) 0
+          ∷ getD fields (at + 2) 0
+          ∷ getD fields (at + 3) 0
+          ∷ [];
+      rows = rows;
+    }
+
+-- nine fields, in the order of the ten bytes, and three tables
+abbrev pub blockFrom : (fields : List ℕ) (f g h : ℕ) → Block
+blockFrom fields f g h =
+    record { f = lutFrom fields 0 f; g = lutFrom fields 4 g; direct = getD fields 8 0; h = h }
+
+-- the ten bytes of a block in a lent buffer, and the length in use
+abbrev pub PacksC : (n : ℕ) (b : Block) (before after : List ℕ) (r : ℕ) → Type 0
+PacksC n b before after r = Worded (Packs n b before after) r
 
 -- of an answer about a sheet: the value, or the place after a refusal, one of which is 0
 abbrev pub toldWord : Answer (Placed ℕ) → ℕ
 toldWord a = a .number + (a .parts .place + a .parts .value) * 256
 
 -- the place and the value of an answer are of 32 bits
-pub record Small (a : Answer (Placed ℕ)) : Type 0 where
+pub record Of32Bits (a : Answer (Placed ℕ)) : Type 0 where
   pub place : a .parts .place < 2 ^ 32
   pub value : a .parts .value < 2 ^ 32
 

@@ -1,28 +1,121 @@
 // The entries for C. A slice is a pointer and then a length.
 ghost use mathlib.Core.Path.{_≡_};
+ghost use Prim.Native.Nat.{_≤_};
+ghost use Rattle.block.specs.Code.{lutOf};
 ghost use Rattle.block.specs.Answer.{writtenOf};
+ghost use Rattle.codec.specs.Ten.{blockBytes};
 ghost use Rattle.record.specs.Record.{offered};
 ghost use Rattle.record.specs.Told.{toldOf};
-ghost use Rattle.drawmitten_c.specs.Boundary.{MatchesC, toldWord, Small, CountsC, PlacesC, CopiesC, AppendsC};
+ghost use Rattle.drawmitten_c.specs.Boundary.{answerWord, MatchesC, ChecksC, EvaluatesC, TypesC, PacksC};
+ghost use Rattle.drawmitten_c.specs.Boundary.{lutFrom, blockFrom};
+ghost use Rattle.drawmitten_c.specs.Boundary.{toldWord, Of32Bits, CountsC, PlacesC, CopiesC, AppendsC};
+use block::FourPin;
+use block::Parts;
 use block::Written;
+use codec::Checked;
 use record::Numbers;
 use record::Told;
+use types::Typed;
+use value::Evaluated;
 
-// The ten bytes of the first block that computes a table of n inputs.
-#[no_mangle]
-pub extern "C" fn drawmitten_match(n: u8, t: &[u8], out: &mut [u8]) -> u64
-    ensures { λ r. ⌜ MatchesC n (now (t .entry)) (now (out .entry)) (now (out .exit)) r ⌝ }
+// The answer of a writer of a block as a number.
+fn answer_word(answer: Written) -> u64
+    requires { ⌜ writtenOf answer .parts ≤ blockBytes ⌝ }
+    ensures { λ r. ⌜ r ≡ answerWord (writtenOf answer) ⌝ }
 {
-    let answer = matcher::first_match(n, t, out);
     match answer {
         Written::Length(used) => (used as u64) * 256,
         Written::Refused(k) => block::number(k) as u64,
     }
 }
 
+// The ten bytes of the first tidy block that computes a table of n inputs.
+#[no_mangle]
+pub extern "C" fn drawmitten_match(n: u8, t: &[u8], out: &mut [u8]) -> u64
+    ensures { λ r. ⌜ MatchesC n (now (t .entry)) (now (out .entry)) (now (out .exit)) r ⌝ }
+{
+    answer_word(matcher::first_match(n, t, out))
+}
+
+// Whether ten bytes are a tidy block of n inputs.
+#[no_mangle]
+pub extern "C" fn drawmitten_check(n: u8, s: &[u8]) -> u64
+    ensures { λ r. ⌜ ChecksC n (now (s .entry)) r ⌝ }
+{
+    let checked = codec::check(n, s);
+    match checked {
+        Checked::Fine => 0,
+        Checked::Refused(k) => block::number(k) as u64,
+    }
+}
+
+// The value's bit at a row.
+#[no_mangle]
+pub extern "C" fn drawmitten_evaluate(n: u8, s: &[u8], row: u32) -> u64
+    ensures { λ r. ⌜ EvaluatesC n (now (s .entry)) row r ⌝ }
+{
+    let evaluated = value::evaluate(n, s, row);
+    match evaluated {
+        Evaluated::Bit(v) => (v as u64) * 256,
+        Evaluated::Refused(k) => block::number(k) as u64,
+    }
+}
+
+// The type's letter in ASCII, and above it the digit.
+#[no_mangle]
+pub extern "C" fn drawmitten_type(n: u8, s: &[u8]) -> u64
+    ensures { λ r. ⌜ TypesC n (now (s .entry)) r ⌝ }
+{
+    let typed = types::type_of(n, s);
+    match typed {
+        Typed::Is(kind) => {
+            let letter = kind.letter;
+            (types::letter_code(letter) as u64) * 256 + (kind.digit as u64) * 65536
+        }
+        Typed::Refused(k) => block::number(k) as u64,
+    }
+}
+
+// The four fields from field `at` on, with a table's rows.
+fn four_pin(fields: &[u8; 9], at: usize, rows: u16) -> FourPin
+    requires { ⌜ at ≤ 4 ⌝ }
+    ensures { λ r. ⌜ lutOf r ≡ lutFrom (now (fields .entry)) at rows ⌝ }
+{
+    FourPin {
+        a: fields[at],
+        b: fields[at + 1],
+        c: fields[at + 2],
+        d: fields[at + 3],
+        rows,
+    }
+}
+
+// The ten bytes of nine fields and three tables.
+#[no_mangle]
+pub extern "C" fn drawmitten_pack(
+    n: u8,
+    fields: &[u8; 9],
+    f: u16,
+    g: u16,
+    h: u8,
+    out: &mut [u8],
+) -> u64
+    ensures { λ r. ⌜ PacksC n (blockFrom (now (fields .entry)) f g h) (now (out .entry)) (now (out .exit)) r ⌝ }
+{
+    let f = four_pin(fields, 0, f);
+    let g = four_pin(fields, 4, g);
+    let parts = Parts {
+        f,
+        g,
+        direct: fields[8],
+        h,
+    };
+    answer_word(codec::pack(n, parts, out))
+}
+
 // The answer of an entry about a sheet as a number.
-fn word(told: Told) -> u64
-    requires { ⌜ Small (toldOf told) ⌝ }
+fn told_word(told: Told) -> u64
+    requires { ⌜ Of32Bits (toldOf told) ⌝ }
     ensures { λ r. ⌜ r ≡ toldWord (toldOf told) ⌝ }
 {
     match told {
@@ -36,7 +129,7 @@ fn word(told: Told) -> u64
 pub extern "C" fn drawmitten_sheet_check(s: &[u8]) -> u64
     ensures { λ r. ⌜ CountsC (now (s .entry)) r ⌝ }
 {
-    word(sheet::check(s))
+    told_word(sheet::check(s))
 }
 
 // The bytes of the record at a place, at the start of the lent buffer.
@@ -44,7 +137,7 @@ pub extern "C" fn drawmitten_sheet_check(s: &[u8]) -> u64
 pub extern "C" fn drawmitten_sheet_read(s: &[u8], place: u64, out: &mut [u8]) -> u64
     ensures { λ r. ⌜ CopiesC (now (s .entry)) place (now (out .entry)) (now (out .exit)) r ⌝ }
 {
-    word(finding::copy_out(s, place as usize, out))
+    told_word(finding::copy_out(s, place as usize, out))
 }
 
 // The place of the record with the number pair.
@@ -52,7 +145,7 @@ pub extern "C" fn drawmitten_sheet_read(s: &[u8], place: u64, out: &mut [u8]) ->
 pub extern "C" fn drawmitten_sheet_find(s: &[u8], craft: u32, block: u32) -> u64
     ensures { λ r. ⌜ PlacesC (now (s .entry)) craft block r ⌝ }
 {
-    word(finding::place_of(s, craft, block))
+    told_word(finding::place_of(s, craft, block))
 }
 
 // A record is added at the end of the used part.
@@ -68,5 +161,5 @@ pub extern "C" fn drawmitten_sheet_append(
     ensures { λ r. ⌜ AppendsC (now (s .entry)) used (offered craft block n (now (ten .entry))) (now (s .exit)) r ⌝ }
 {
     let x = Numbers { craft, block, n };
-    word(append::append(s, used, x, ten))
+    told_word(append::append(s, used, x, ten))
 }

@@ -1,4 +1,4 @@
-// The first block in byte order that computes a truth table, or that there is none.
+// The first tidy block in byte order that computes a truth table, or that there is none.
 ghost use mathlib.Core.Path.{_≡_};
 ghost use mathlib.Core.Bool.{true, _||_};
 ghost use Prim.Native.Nat.{_<_, _≤_, _-_, _%_, _^_};
@@ -10,7 +10,7 @@ ghost use lib.ListN.{length};
 ghost use Rattle.block.specs.Code.{lutOf, blockOf};
 ghost use Rattle.subsets.specs.Masks.{pinsOfMask, Small};
 ghost use Rattle.codec.specs.Answers.{checkedOf};
-ghost use Rattle.contents.specs.Contents.{isWiring, noContents, blockWith, LeastFilling};
+ghost use Rattle.contents.specs.Contents.{noContents, blockWith, LeastFilling};
 ghost use Rattle.matcher.specs.Match.{matchRefusal, Matched};
 ghost use Rattle.matcher.specs.Search.{directOf, directSet, directs, lutOn, Uncovered, Weighable, Searched};
 use block::BLOCK_BYTES;
@@ -233,7 +233,7 @@ fn write_first(n: u8, t: &[u8], out: &mut [u8]) -> Written
     }
 }
 
-// A table of n inputs: the ten bytes of the first block that computes it.
+// A table of n inputs: the ten bytes of the first tidy block that computes it.
 pub fn first_match(n: u8, t: &[u8], out: &mut [u8]) -> Written
     ensures { λ r. ⌜ Matched n (now (t .entry)) (now (out .entry)) (now (out .exit)) r ⌝ }
 {

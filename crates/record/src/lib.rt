@@ -8,13 +8,14 @@ ghost use Rattle.record.specs.Record.{pairOf};
 ghost use Rattle.record.specs.Fault.{at, unassigned};
 ghost use Rattle.record.specs.Told.{told, toldOf};
 ghost use Rattle.record.specs.Answers.{Numbered, Judges};
+use block::BLOCK_BYTES;
 use block::Refusal;
 use codec::Unpacked;
 
-// The length of a record, and of the numbers before its ten bytes.
-pub const RECORD_BYTES: usize = 14;
-
+// The length of the numbers of a record, and of the whole record.
 pub const HEADER_BYTES: usize = 4;
+
+pub const RECORD_BYTES: usize = HEADER_BYTES + BLOCK_BYTES;
 
 // The greatest spacecraft number and block number.
 const MOST_CRAFT: u32 = 65535;
@@ -69,7 +70,7 @@ fn is_above(last: Numbers, x: Numbers) -> bool
 }
 
 // A refusal's place: that of the record, but for 2.
-fn place_of(k: Refusal, place: usize) -> usize
+fn place_told(k: Refusal, place: usize) -> usize
     ensures { λ r. ⌜ r ≡ at (numberOf k) place .place ⌝ }
 {
     if block::number(k) == 2 {
@@ -83,7 +84,7 @@ fn stopped(unpacked: Unpacked, place: usize) -> Told
     ensures { λ r. ⌜ toldOf r ≡ told (at (unpackedOf unpacked .number) place) 0 0 ⌝ }
 {
     match unpacked {
-        Unpacked::Refused(k) => Told::Refused(k, place_of(k, place)),
+        Unpacked::Refused(k) => Told::Refused(k, place_told(k, place)),
         Unpacked::Block(_) => Told::Value(0),
     }
 }

@@ -1,7 +1,7 @@
 // The type of a block, from its carried pins alone.
 ghost use mathlib.Core.Path.{_≡_};
 ghost use Rattle.block.specs.Code.{lutOf, blockOf};
-ghost use Rattle.block.specs.Kind.{carries, letterBy, isShared, digitOf, typeOf};
+ghost use Rattle.block.specs.Kind.{carries, letterBy, isShared, digitOf, typeOf, letterCode};
 ghost use Rattle.types.specs.Typing.{Types};
 use block::FourPin;
 use block::Kind;
@@ -83,5 +83,16 @@ pub fn type_of(n: u8, s: &[u8]) -> Typed
     match unpacked {
         Unpacked::Refused(k) => Typed::Refused(k),
         Unpacked::Block(x) => Typed::Is(kind(x)),
+    }
+}
+
+// A letter in ASCII.
+pub fn letter_code(l: Letter) -> u8
+    ensures { λ r. ⌜ r ≡ letterCode l ⌝ }
+{
+    match l {
+        Letter::A => b'A',
+        Letter::B => b'B',
+        Letter::C => b'C',
     }
 }

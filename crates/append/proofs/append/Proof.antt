@@ -49,14 +49,5 @@ returns-2 c =
 pub append-spec : {M : Type 1} → statement M
 append-spec =
     tie.close
-    (tie.spec
-    (search needs)
-    (search needs)
-    within
-    within
-    (search needs)
-    write-record-requires
-    (search needs)
-    returns
-    (search needs)
-    returns-2)
+    (tie.spec (search needs) (search needs) within within (search needs) write-record-requires
+    (search needs) returns (search needs) returns-2)

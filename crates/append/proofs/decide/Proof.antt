@@ -99,25 +99,7 @@ returns-5 c = rw (room-decides (c .before), c .if2 .left)
 pub decide-spec : {M : Type 1} → statement M
 decide-spec =
     tie.close
-    (tie.spec
-    returns
-    (search needs)
-    (search needs)
-    (search needs)
-    (search needs)
-    (search needs)
-    (search needs)
-    returns-2
-    (search needs)
-    (search needs)
-    (search needs)
-    last-of-requires
-    (search needs)
-    (search needs)
-    (search needs)
-    returns-3
-    (search needs)
-    (search needs)
-    returns-4
-    (search needs)
-    returns-5)
+    (tie.spec returns (search needs) (search needs) (search needs) (search needs) (search needs)
+    (search needs) returns-2 (search needs) (search needs) (search needs) last-of-requires
+    (search needs) (search needs) (search needs) returns-3 (search needs) (search needs) returns-4
+    (search needs) returns-5)

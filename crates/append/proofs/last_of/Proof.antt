@@ -17,11 +17,5 @@ returns-2 c =
 pub last-of-spec : {M : Type 1} → statement M
 last-of-spec =
     tie.close
-    (tie.spec
-    returns
-    (search needs)
-    (search needs)
-    (search needs)
-    (search needs)
-    (search needs)
+    (tie.spec returns (search needs) (search needs) (search needs) (search needs) (search needs)
     returns-2)

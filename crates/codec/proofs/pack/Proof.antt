@@ -53,13 +53,5 @@ returns-2 c =
 pub pack-spec : {M : Type 1} → statement M
 pack-spec =
     tie.close
-    (tie.spec
-    (search needs)
-    (search needs)
-    (search needs)
-    ten-requires
-    (search needs)
-    copy-requires
-    returns
-    (search needs)
-    returns-2)
+    (tie.spec (search needs) (search needs) (search needs) ten-requires (search needs)
+    copy-requires returns (search needs) returns-2)

@@ -20,11 +20,5 @@ returns c =
 pub parts-at-spec : {M : Type 1} → statement M
 parts-at-spec =
     tie.close
-    (tie.spec
-    (search needs)
-    (search needs)
-    (search needs)
-    (search needs)
-    (search needs)
-    (search needs)
-    returns)
+    (tie.spec (search needs) (search needs) (search needs) (search needs) (search needs)
+    (search needs) returns)

@@ -35,22 +35,7 @@ returns c =
 pub ten-spec : {M : Type 1} → statement M
 ten-spec =
     tie.close
-    (tie.spec
-    (search needs)
-    (search needs)
-    (search needs)
-    (search needs)
-    (search needs)
-    (search needs)
-    (search needs)
-    (search needs)
-    (search needs)
-    (search needs)
-    (search needs)
-    (search needs)
-    (search needs)
-    (search needs)
-    (search needs)
-    (search needs)
-    (search needs)
+    (tie.spec (search needs) (search needs) (search needs) (search needs) (search needs)
+    (search needs) (search needs) (search needs) (search needs) (search needs) (search needs)
+    (search needs) (search needs) (search needs) (search needs) (search needs) (search needs)
     returns)

@@ -46,13 +46,5 @@ returns-4 c =
 pub unpack-spec : {M : Type 1} → statement M
 unpack-spec =
     tie.close
-    (tie.spec
-    returns
-    returns-2
-    (search needs)
-    (search needs)
-    (search needs)
-    (search needs)
-    (search needs)
-    returns-3
-    returns-4)
+    (tie.spec returns returns-2 (search needs) (search needs) (search needs) (search needs)
+    (search needs) returns-3 returns-4)

@@ -1,7 +1,6 @@
 -- `contents::changed` meets its contract. Assumes nothing.
 use mathlib.Core.Path.{sym}
 use native.Mathlib.Omega.{arith}
-use borrow.Author.Needs.{needs}
 use Rattle.bits.proofs.BitLaws.{num-has}
 use Rattle.contents.proofs.changed.Statement.{statement}
 use Rattle.contents.proofs.changed.Tie as tie
@@ -14,4 +13,8 @@ returns c =
 
 pub changed-spec : {M : Type 1} → statement M
 changed-spec =
-    tie.close (tie.spec (search needs) (search needs) (search needs) (search needs) returns)
+    tie.close (tie.spec (λ c. omega arith)
+    (λ c. omega arith)
+    (λ c. omega arith)
+    (λ c. omega arith)
+    returns)

@@ -2,7 +2,6 @@
 use Prim.Native.Nat.{_-_, _^_, _≤_}
 use mathlib.Core.Path.{_≡_, sym, _∙_}
 use native.Mathlib.Omega.{arith}
-use borrow.Author.Needs.{needs}
 use Rattle.bits.proofs.TestLaws.{same-bool}
 use Rattle.bits.proofs.SetLaws.{one-shifted}
 use Rattle.contents.proofs.GatherLaws.{Gathered, gathered-none, gathered-same, gathered-more}
@@ -54,6 +53,6 @@ returns c x l =
 pub changes-spec : {M : Type 1} → statement M
 changes-spec =
     tie.close
-    (tie.spec Inv-loop μ-loop (search needs) loop-holds (search needs) (search needs)
-    (search needs) (search needs) loop-again (search needs) (search needs) (search needs)
-    (search needs) (search needs) loop-again-2 returns)
+    (tie.spec Inv-loop μ-loop (λ c. omega arith) loop-holds (λ c. omega arith) (λ c. omega arith)
+    (λ c. omega arith) (λ c. omega arith) loop-again (λ c. omega arith) (λ c. omega arith)
+    (λ c. omega arith) (λ c. omega arith) (λ c. omega arith) loop-again-2 returns)

@@ -3,7 +3,6 @@ use Prim.Native.Nat.{ℕ, _-_, _<_, _≤_}
 use mathlib.Core.Path.{_≡_, sym, _∙_}
 use mathlib.Core.Bool.{false}
 use native.Mathlib.Omega.{arith}
-use borrow.Author.Needs.{needs}
 use borrow.Author.Count.{below-none, below-more}
 use Rattle.bits.proofs.SearchLaws.{first-at, first-none}
 use Rattle.contents.specs.Code.{servesBy, choiceBy}
@@ -45,5 +44,5 @@ returns-2 c =
 pub choice-spec : {M : Type 1} → statement M
 choice-spec =
     tie.close
-    (tie.spec Inv-loop μ-loop loop-holds (search needs) returns (search needs) (search needs)
-    loop-again returns-2)
+    (tie.spec Inv-loop μ-loop loop-holds (λ c. omega arith) returns (λ c. omega arith)
+    (λ c. omega arith) loop-again returns-2)

@@ -55,5 +55,5 @@ returns-2 c =
 pub choices-spec : {M : Type 1} → statement M
 choices-spec =
     tie.close
-    (tie.spec Inv-loop μ-loop loop-holds (search needs) (search needs) (search needs) returns
-    (search needs) (search needs) (search needs) loop-again returns-2)
+    (tie.spec Inv-loop μ-loop loop-holds (λ c. omega arith) (λ c. omega arith) (λ c. omega arith)
+    returns (λ c. omega arith) (λ c. omega arith) (λ c. omega arith) loop-again returns-2)

@@ -1,5 +1,5 @@
 -- `contents::component` meets its contract. Assumes nothing.
-use borrow.Author.Needs.{needs}
+use native.Mathlib.Omega.{arith}
 use Rattle.contents.specs.Code.{componentBy}
 use Rattle.contents.proofs.component.Statement.{statement}
 use Rattle.contents.proofs.component.Tie as tie
@@ -9,4 +9,5 @@ unfolding componentBy
 returns c = c .select .ensures
 
 pub component-spec : {M : Type 1} → statement M
-component-spec = tie.close (tie.spec (search needs) returns)
+component-spec = tie.close (tie.spec (λ c. omega arith)
+    returns)

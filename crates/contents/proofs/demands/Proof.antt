@@ -97,7 +97,7 @@ returns c =
 pub demands-spec : {M : Type 1} → statement M
 demands-spec =
     tie.close
-    (tie.spec Inv-loop μ-loop (search needs) loop-holds (search needs) (search needs)
-    (search needs) (search needs) (search needs) (search needs) (search needs) (search needs)
-    (search needs) loop-again (search needs) (search needs) (search needs) (search needs)
-    loop-again-2 returns)
+    (tie.spec Inv-loop μ-loop (λ c. omega arith) loop-holds (λ c. omega arith) (λ c. omega arith)
+    (λ c. omega arith) (λ c. omega arith) (λ c. omega arith) (λ c. omega arith) (λ c. omega arith)
+    (λ c. omega arith) (λ c. omega arith) loop-again (λ c. omega arith) (λ c. omega arith)
+    (λ c. omega arith) (λ c. omega arith) loop-again-2 returns)

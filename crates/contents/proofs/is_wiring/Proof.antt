@@ -1,6 +1,5 @@
 -- `contents::is_wiring` meets its contract. Assumes nothing.
 use native.Mathlib.Omega.{arith}
-use borrow.Author.Needs.{needs}
 use Rattle.contents.proofs.ChoiceLaws.{wiring-not, wiring-by}
 use Rattle.contents.proofs.is_wiring.Statement.{statement}
 use Rattle.contents.proofs.is_wiring.Tie as tie
@@ -17,4 +16,6 @@ returns-2 c =
     (wiring-by (args .n) (args .f) (args .g) (args .direct) (omega arith))
 
 pub is-wiring-spec : {M : Type 1} → statement M
-is-wiring-spec = tie.close (tie.spec returns (search needs) (search needs) returns-2)
+is-wiring-spec = tie.close (tie.spec returns (λ c. omega arith)
+    (λ c. omega arith)
+    returns-2)

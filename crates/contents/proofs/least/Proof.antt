@@ -3,7 +3,7 @@
 use Prim.Native.Nat.{_<_}
 use mathlib.Core.Path.{_≡_, sym, _∙_}
 use mathlib.Core.Bool.{true}
-use borrow.Author.Needs.{needs}
+use native.Mathlib.Omega.{arith}
 use borrow.Author.Tests.{not-true, not-false}
 use Rattle.contents.specs.Contents.{isWiring}
 use Rattle.contents.proofs.ChoiceLaws.{pieces, direct-lt}
@@ -64,5 +64,5 @@ returns-3 c =
 pub least-spec : {M : Type 1} → statement M
 least-spec =
     tie.close
-    (tie.spec (search needs) returns wires-of-requires demands-requires (search needs) returns-2
-    smallest-requires returns-3)
+    (tie.spec (λ c. omega arith) returns wires-of-requires demands-requires (λ c. omega arith)
+    returns-2 smallest-requires returns-3)

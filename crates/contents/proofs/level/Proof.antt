@@ -1,4 +1,5 @@
 -- `contents::level` meets its contract. Assumes nothing.
+use native.Mathlib.Omega.{arith}
 use borrow.Author.Needs.{needs}
 use Rattle.contents.proofs.level.Statement.{statement}
 use Rattle.contents.proofs.level.Tie as tie
@@ -10,4 +11,5 @@ returns-2 : tie.Need-returns-2
 returns-2 c = rw (c .if1 .left) (search needs)
 
 pub level-spec : {M : Type 1} → statement M
-level-spec = tie.close (tie.spec (search needs) returns returns-2)
+level-spec = tie.close (tie.spec (λ c. omega arith)
+    returns returns-2)

@@ -1,5 +1,5 @@
 -- `contents::moved` meets its contract. Assumes nothing.
-use borrow.Author.Needs.{needs}
+use native.Mathlib.Omega.{arith}
 use Rattle.bits.specs.Bits.{has}
 use Rattle.contents.proofs.TurnLaws.{moved-both, moved-by}
 use Rattle.contents.proofs.moved.Statement.{statement}
@@ -19,4 +19,8 @@ returns c =
 
 pub moved-spec : {M : Type 1} → statement M
 moved-spec =
-    tie.close (tie.spec (search needs) (search needs) (search needs) (search needs) returns)
+    tie.close (tie.spec (λ c. omega arith)
+    (λ c. omega arith)
+    (λ c. omega arith)
+    (λ c. omega arith)
+    returns)

@@ -4,7 +4,6 @@ use Prim.Native.Nat.{ℕ, _-_, _<_, _≤_}
 use mathlib.Core.Path.{_≡_, sym, _∙_}
 use mathlib.Core.Bool.{false}
 use native.Mathlib.Omega.{arith}
-use borrow.Author.Needs.{needs}
 use borrow.Author.Count.{below-none, below-more}
 use borrow.Author.Tests.{not-true, not-false}
 use Rattle.bits.proofs.SearchLaws.{some-in, none-in}
@@ -68,6 +67,7 @@ returns-2 c =
 pub possible-spec : {M : Type 1} → statement M
 possible-spec =
     tie.close
-    (tie.spec Inv-loop μ-loop (search needs) (search needs) loop-holds (search needs)
-    (search needs) (search needs) (search needs) (search needs) (search needs) loop-again
-    (search needs) returns (search needs) (search needs) loop-again-2 returns-2)
+    (tie.spec Inv-loop μ-loop (λ c. omega arith) (λ c. omega arith) loop-holds (λ c. omega arith)
+    (λ c. omega arith) (λ c. omega arith) (λ c. omega arith) (λ c. omega arith) (λ c. omega arith)
+    loop-again (λ c. omega arith) returns (λ c. omega arith) (λ c. omega arith) loop-again-2
+    returns-2)

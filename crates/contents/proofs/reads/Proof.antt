@@ -1,7 +1,6 @@
 -- `contents::reads` meets its contract. Assumes nothing.
 use mathlib.Core.Path.{_∙_}
 use native.Mathlib.Omega.{arith}
-use borrow.Author.Needs.{needs}
 use Rattle.wiring.proofs.ReadLaws.{pinValue-num}
 use Rattle.rows.proofs.SeenLaws.{reads-bit}
 use Rattle.contents.proofs.reads.Statement.{statement}
@@ -16,4 +15,9 @@ returns c =
 pub reads-spec : {M : Type 1} → statement M
 reads-spec =
     tie.close
-    (tie.spec (search needs) (search needs) (search needs) (search needs) (search needs) returns)
+    (tie.spec (λ c. omega arith)
+    (λ c. omega arith)
+    (λ c. omega arith)
+    (λ c. omega arith)
+    (λ c. omega arith)
+    returns)

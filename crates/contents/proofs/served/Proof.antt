@@ -1,7 +1,6 @@
 -- `contents::served` meets its contract. Assumes nothing.
 use mathlib.Core.Path.{sym, _∙_}
 use native.Mathlib.Omega.{arith}
-use borrow.Author.Needs.{needs}
 use borrow.Author.Tests.{not-true, not-false}
 use Rattle.contents.proofs.TurnLaws.{serves-not, serves-by}
 use Rattle.contents.proofs.served.Statement.{statement}
@@ -24,4 +23,6 @@ returns-2 c =
     (c .moved .ensures)
 
 pub served-spec : {M : Type 1} → statement M
-served-spec = tie.close (tie.spec (search needs) returns (search needs) returns-2)
+served-spec = tie.close (tie.spec (λ c. omega arith)
+    returns (λ c. omega arith)
+    returns-2)

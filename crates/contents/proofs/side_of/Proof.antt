@@ -1,7 +1,6 @@
 -- `contents::side_of` meets its contract. Assumes nothing.
 use mathlib.Core.Path.{refl}
 use native.Mathlib.Omega.{arith}
-use borrow.Author.Needs.{needs}
 use Rattle.contents.proofs.ChoiceLaws.{pieces, direct-lt}
 use Rattle.contents.proofs.SideLaws.{f-nine, is-side}
 use Rattle.contents.proofs.side_of.Statement.{statement}
@@ -35,4 +34,5 @@ returns c =
 
 pub side-of-spec : {M : Type 1} → statement M
 side-of-spec =
-    tie.close (tie.spec (search needs) sub-keep shl-keep changes-requires shr-bridged returns)
+    tie.close (tie.spec (λ c. omega arith)
+    sub-keep shl-keep changes-requires shr-bridged returns)

@@ -3,7 +3,6 @@
 use Prim.Native.Nat.{_+_, _-_, _≤_}
 use mathlib.Core.Path.{_≡_}
 use native.Mathlib.Omega.{arith}
-use borrow.Author.Needs.{needs}
 use lib.ListN.{length}
 use Rattle.subsets.specs.Masks.{variablesFrom, variablesIn}
 use Rattle.contents.proofs.SizeLaws.{left, left-step}
@@ -36,5 +35,5 @@ returns c =
 pub size-spec : {M : Type 1} → statement M
 size-spec =
     tie.close
-    (tie.spec Inv-loop μ-loop loop-holds (search needs) (search needs) (search needs)
-    (search needs) (search needs) loop-again returns)
+    (tie.spec Inv-loop μ-loop loop-holds (λ c. omega arith) (λ c. omega arith) (λ c. omega arith)
+    (λ c. omega arith) (λ c. omega arith) loop-again returns)

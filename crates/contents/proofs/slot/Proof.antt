@@ -1,6 +1,5 @@
 -- `contents::slot` meets its contract. Assumes nothing.
 use native.Mathlib.Omega.{arith}
-use borrow.Author.Needs.{needs}
 use Rattle.contents.specs.Code.{slotBy}
 use Rattle.contents.proofs.slot.Statement.{statement}
 use Rattle.contents.proofs.slot.Tie as tie
@@ -16,5 +15,5 @@ returns c =
 pub slot-spec : {M : Type 1} → statement M
 slot-spec =
     tie.close
-    (tie.spec (search needs) (search needs) (search needs) (search needs) (search needs)
-    (search needs) (search needs) returns)
+    (tie.spec (λ c. omega arith) (λ c. omega arith) (λ c. omega arith) (λ c. omega arith)
+    (λ c. omega arith) (λ c. omega arith) (λ c. omega arith) returns)

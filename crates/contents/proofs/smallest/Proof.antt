@@ -3,7 +3,6 @@
 use Prim.Native.Nat.{_-_, _≤_}
 use mathlib.Core.Path.{_≡_, refl, _∙_}
 use native.Mathlib.Omega.{arith}
-use borrow.Author.Needs.{needs}
 use Rattle.contents.specs.Contents.{noContents}
 use Rattle.contents.specs.Code.{withTable, leastOf}
 use Rattle.contents.proofs.MinimumLaws.{leastOf-less, leastOf-same}
@@ -50,5 +49,5 @@ returns c =
 pub smallest-spec : {M : Type 1} → statement M
 smallest-spec =
     tie.close
-    (tie.spec Inv-loop μ-loop loop-holds (search needs) (search needs) (search needs)
-    (search needs) loop-again (search needs) (search needs) loop-again-2 returns)
+    (tie.spec Inv-loop μ-loop loop-holds (λ c. omega arith) (λ c. omega arith) (λ c. omega arith)
+    (λ c. omega arith) loop-again (λ c. omega arith) (λ c. omega arith) loop-again-2 returns)

@@ -1,6 +1,5 @@
 -- `contents::turn_g` meets its contract. Assumes nothing.
 use native.Mathlib.Omega.{arith}
-use borrow.Author.Needs.{needs}
 use Rattle.contents.proofs.TurnLaws.{turns-g, flip-none}
 use Rattle.contents.proofs.turn_g.Statement.{statement}
 use Rattle.contents.proofs.turn_g.Tie as tie
@@ -14,5 +13,5 @@ returns-2 c e l = rw (c .if1 .left, flip-none e l)
 pub turn-g-spec : {M : Type 1} → statement M
 turn-g-spec =
     tie.close
-    (tie.spec (search needs) (search needs) (search needs) (search needs) (search needs)
-    (search needs) returns returns-2)
+    (tie.spec (λ c. omega arith) (λ c. omega arith) (λ c. omega arith) (λ c. omega arith)
+    (λ c. omega arith) (λ c. omega arith) returns returns-2)

@@ -1,6 +1,6 @@
 -- `contents::wires_of` meets its contract. Assumes nothing.
 use mathlib.Core.Path.{refl}
-use borrow.Author.Needs.{needs}
+use native.Mathlib.Omega.{arith}
 use Rattle.contents.proofs.ChoiceLaws.{direct-lt, tidy-exchanged}
 use Rattle.contents.proofs.SideLaws.{shared-bits}
 use Rattle.contents.proofs.wires_of.Statement.{statement}
@@ -32,4 +32,5 @@ returns c =
 
 pub wires-of-spec : {M : Type 1} → statement M
 wires-of-spec =
-    tie.close (tie.spec side-of-requires side-of-requires-2 shl-shared (search needs) returns)
+    tie.close (tie.spec side-of-requires side-of-requires-2 shl-shared (λ c. omega arith)
+    returns)

@@ -1,6 +1,6 @@
 -- `contents::with_table` meets its contract. Assumes nothing.
 use mathlib.Core.Path.{sym, _∙_}
-use borrow.Author.Needs.{needs}
+use native.Mathlib.Omega.{arith}
 use borrow.Author.Tests.{not-true, not-false}
 use Rattle.contents.proofs.WithTableLaws.{with-loud, with-none, with-as}
 use Rattle.contents.proofs.with_table.Statement.{statement}
@@ -32,5 +32,6 @@ returns-3 c =
 pub with-table-spec : {M : Type 1} → statement M
 with-table-spec =
     tie.close
-    (tie.spec (search needs) returns (search needs) returns-2 (search needs) (search needs)
-    (search needs) (search needs) (search needs) (search needs) returns-3)
+    (tie.spec (λ c. omega arith) returns (λ c. omega arith) returns-2 (λ c. omega arith)
+    (λ c. omega arith) (λ c. omega arith) (λ c. omega arith) (λ c. omega arith) (λ c. omega arith)
+    returns-3)

@@ -6,7 +6,6 @@ use mathlib.Core.Bool.{false, not, Bool·beq}
 use native.Mathlib.Omega.{arith}
 use lib.Pow.{pow-lt}
 use borrow.Author.Count.{below-none, below-more}
-use borrow.Author.Needs.{needs}
 use Rattle.filter.proofs.SupportLaws.{changesAt, tested, one-changes, none-changes}
 use Rattle.filter.proofs.depends.Statement.{statement}
 use Rattle.filter.proofs.depends.Tie as tie
@@ -65,17 +64,6 @@ returns-2 c =
 pub depends-spec : {M : Type 1} → statement M
 depends-spec =
     tie.close
-    (tie.spec
-    Inv-loop
-    μ-loop
-    (search needs)
-    sub-keep
-    (search needs)
-    loop-holds
-    (search needs)
-    (search needs)
-    returns
-    (search needs)
-    (search needs)
-    loop-again
+    (tie.spec Inv-loop μ-loop (λ c. omega arith) sub-keep (λ c. omega arith) loop-holds
+    (λ c. omega arith) (λ c. omega arith) returns (λ c. omega arith) (λ c. omega arith) loop-again
     returns-2)

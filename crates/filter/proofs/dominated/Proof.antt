@@ -7,7 +7,6 @@ use native.Mathlib.Omega.{arith}
 use lib.ListN.{getD}
 use borrow.Author.Count.{below-none, below-more}
 use borrow.Author.Tests.{eq-eqb, ne-eqb}
-use borrow.Author.Needs.{needs}
 use Rattle.bits.proofs.SearchLaws.{some-in, none-in}
 use Rattle.filter.specs.Choices.{contains}
 use Rattle.filter.proofs.dominated.Statement.{statement}
@@ -42,15 +41,5 @@ returns-2 c =
 pub dominated-spec : {M : Type 1} → statement M
 dominated-spec =
     tie.close
-    (tie.spec
-    Inv-loop
-    μ-loop
-    loop-holds
-    (search needs)
-    (search needs)
-    (search needs)
-    returns
-    (search needs)
-    (search needs)
-    loop-again
-    returns-2)
+    (tie.spec Inv-loop μ-loop loop-holds (λ c. omega arith) (λ c. omega arith) (λ c. omega arith)
+    returns (λ c. omega arith) (λ c. omega arith) loop-again returns-2)

@@ -2,7 +2,6 @@
 use Prim.Native.Nat.{_-_, _%_}
 use native.Mathlib.Omega.{arith}
 use lib.Bits.{and-le-r}
-use borrow.Author.Needs.{needs}
 use Rattle.bits.specs.Bits.{has}
 use Rattle.bits.proofs.BitLaws.{has-low}
 use Rattle.filter.proofs.SetLaws.{and-rest}
@@ -20,4 +19,5 @@ returns c =
     )
 
 pub rest-of-spec : {M : Type 1} → statement M
-rest-of-spec = tie.close (tie.spec (search needs) returns)
+rest-of-spec = tie.close (tie.spec (λ c. omega arith)
+    returns)

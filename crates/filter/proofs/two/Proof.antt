@@ -6,7 +6,6 @@ use mathlib.Core.Logic.{inl, inr}
 use native.Mathlib.Omega.{arith}
 use lib.Bits.{bitAnd}
 use lib.ListN.{getD}
-use borrow.Author.Needs.{needs}
 use Rattle.filter.proofs.TwoLaws.{base-lt, Seen, seen-start, seen-more, seen-first}
 use Rattle.filter.proofs.TwoLaws.{seen-three, seen-all}
 use Rattle.filter.proofs.two.Statement.{statement}
@@ -72,30 +71,30 @@ two-spec =
     Inv-loop
     μ-loop
     loop-holds
-    (search needs)
-    (search needs)
-    (search needs)
+    (λ c. omega arith)
+    (λ c. omega arith)
+    (λ c. omega arith)
     (λ c. omega (arith, the-base (c .before)))
     (λ c. omega (arith, the-base (c .before)))
     (λ c. omega (arith, the-base (c .before)))
-    (search needs)
-    (search needs)
+    (λ c. omega arith)
+    (λ c. omega arith)
     loop-again
     (λ c. omega (arith, the-base (c .before .before .before)))
     (λ c. omega (arith, the-base (c .before .before .before)))
     (λ c. omega (arith, the-base (c .before .before .before .before)))
     (λ c. omega (arith, the-base (c .before .before .before .before)))
-    (search needs)
-    (search needs)
+    (λ c. omega arith)
+    (λ c. omega arith)
     loop-again-2
     (λ c. omega (arith, the-second c))
     (λ c. omega (arith, the-second c))
     (λ c. omega (arith, the-second c))
-    (search needs)
-    (search needs)
-    (search needs)
+    (λ c. omega arith)
+    (λ c. omega arith)
+    (λ c. omega arith)
     returns
-    (search needs)
-    (search needs)
+    (λ c. omega arith)
+    (λ c. omega arith)
     loop-again-3
     returns-2)

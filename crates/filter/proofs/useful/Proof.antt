@@ -4,7 +4,6 @@ use Prim.Native.Nat.{_-_, _≤_}
 use mathlib.Core.Path.{_≡_, sym, _∙_}
 use native.Mathlib.Omega.{arith}
 use lib.ListN.{getD}
-use borrow.Author.Needs.{needs}
 use Rattle.subsets.specs.Masks.{masks}
 use Rattle.filter.specs.Support.{inputsOf}
 use Rattle.filter.specs.Choices.{contained, usefulTo}
@@ -75,28 +74,8 @@ returns c =
 pub useful-spec : {M : Type 1} → statement M
 useful-spec =
     tie.close
-    (tie.spec
-    Inv-loop
-    μ-loop
-    (search needs)
-    (search needs)
-    (search needs)
-    loop-holds
-    (search needs)
-    (search needs)
-    (search needs)
-    (search needs)
-    (search needs)
-    loop-again
-    (search needs)
-    (search needs)
-    (search needs)
-    loop-again-2
-    (search needs)
-    (search needs)
-    (search needs)
-    (search needs)
-    (search needs)
-    (search needs)
-    loop-again-3
-    returns)
+    (tie.spec Inv-loop μ-loop (λ c. omega arith) (λ c. omega arith) (λ c. omega arith) loop-holds
+    (λ c. omega arith) (λ c. omega arith) (λ c. omega arith) (λ c. omega arith) (λ c. omega arith)
+    loop-again (λ c. omega arith) (λ c. omega arith) (λ c. omega arith) loop-again-2
+    (λ c. omega arith) (λ c. omega arith) (λ c. omega arith) (λ c. omega arith) (λ c. omega arith)
+    (λ c. omega arith) loop-again-3 returns)

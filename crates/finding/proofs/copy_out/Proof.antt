@@ -39,16 +39,5 @@ returns-2 c =
 pub copy-out-spec : {M : Type 1} → statement M
 copy-out-spec =
     tie.close
-    (tie.spec
-    (search needs)
-    (search needs)
-    (search needs)
-    returns
-    mul-a
-    add-copy
-    (search needs)
-    (search needs)
-    part-copy-end
-    copy-requires
-    (search needs)
-    returns-2)
+    (tie.spec (search needs) (search needs) (search needs) returns mul-a add-copy (search needs)
+    (search needs) part-copy-end copy-requires (search needs) returns-2)

@@ -42,18 +42,6 @@ returns-2 c =
 pub find-spec : {M : Type 1} → statement M
 find-spec =
     tie.close
-    (tie.spec
-    (search needs)
-    (search needs)
-    (search needs)
-    (search needs)
-    (search needs)
-    (search needs)
-    returns
-    mul-a
-    add-a
-    add-result
-    (search needs)
-    (search needs)
-    part-result-end-2
+    (tie.spec (search needs) (search needs) (search needs) (search needs) (search needs)
+    (search needs) returns mul-a add-a add-result (search needs) (search needs) part-result-end-2
     returns-2)

@@ -64,23 +64,6 @@ returns-3 c =
 pub place-of-spec : {M : Type 1} → statement M
 place-of-spec =
     tie.close
-    (tie.spec
-    Inv-loop
-    μ-loop
-    (search needs)
-    (search needs)
-    (search needs)
-    returns
-    loop-holds
-    (search needs)
-    (search needs)
-    (search needs)
-    (search needs)
-    (search needs)
-    (search needs)
-    (search needs)
-    returns-2
-    (search needs)
-    (search needs)
-    loop-again
-    returns-3)
+    (tie.spec Inv-loop μ-loop (search needs) (search needs) (search needs) returns loop-holds
+    (search needs) (search needs) (search needs) (search needs) (search needs) (search needs)
+    (search needs) returns-2 (search needs) (search needs) loop-again returns-3)

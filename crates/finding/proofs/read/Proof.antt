@@ -35,15 +35,5 @@ returns-2 c =
 pub read-spec : {M : Type 1} → statement M
 read-spec =
     tie.close
-    (tie.spec
-    (search needs)
-    (search needs)
-    (search needs)
-    mul-a
-    add-taken
-    (search needs)
-    (search needs)
-    part-taken-end
-    (search needs)
-    returns
-    returns-2)
+    (tie.spec (search needs) (search needs) (search needs) mul-a add-taken (search needs)
+    (search needs) part-taken-end (search needs) returns returns-2)

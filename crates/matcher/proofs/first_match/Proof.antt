@@ -3,7 +3,7 @@
 use mathlib.Core.Path.{sym, ap, _∙_}
 use denote.Ref.{now}
 use Rattle.codec.specs.Answers.{checkedOf}
-use borrow.Author.Needs.{needs}
+use native.Mathlib.Omega.{arith}
 use Rattle.matcher.proofs.EntryLaws.{matched-refused}
 use Rattle.matcher.proofs.first_match.Statement.{statement}
 use Rattle.matcher.proofs.first_match.Tie as tie
@@ -25,11 +25,5 @@ returns-2 c = c .before .before .write-first .ensures
 pub first-match-spec : {M : Type 1} → statement M
 first-match-spec =
     tie.close
-    (tie.spec
-    (search needs)
-    (search needs)
-    (search needs)
-    write-first-requires
-    returns
-    (search needs)
-    returns-2)
+    (tie.spec (λ c. omega arith) (λ c. omega arith) (λ c. omega arith) write-first-requires
+    returns (λ c. omega arith) returns-2)

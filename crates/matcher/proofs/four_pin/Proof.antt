@@ -3,7 +3,6 @@ use mathlib.Core.Path.{_≡_, ap}
 use mathlib.Core.List.{List}
 use Prim.Native.Nat.{ℕ, _/_, _%_}
 use native.Mathlib.Omega.{arith}
-use borrow.Author.Needs.{needs}
 use Rattle.matcher.specs.Search.{lutOn}
 use Rattle.rows.proofs.KeyLaws.{key-pins}
 use Rattle.matcher.proofs.four_pin.Statement.{statement}
@@ -21,4 +20,9 @@ returns c =
 pub four-pin-spec : {M : Type 1} → statement M
 four-pin-spec =
     tie.close
-    (tie.spec (search needs) (search needs) (search needs) (search needs) (search needs) returns)
+    (tie.spec (λ c. omega arith)
+    (λ c. omega arith)
+    (λ c. omega arith)
+    (λ c. omega arith)
+    (λ c. omega arith)
+    returns)

@@ -3,7 +3,6 @@ use mathlib.Core.Path.{_≡_, sym, _∙_}
 use native.Mathlib.Omega.{arith}
 use lib.ListN.{length}
 use Rattle.block.specs.Table.{tableBytes, padding}
-use borrow.Author.Needs.{needs}
 use Rattle.matcher.proofs.HeadLaws.{refuses-1, refuses-2, refuses-3, refuses-5, passes, tableBytes-some}
 use Rattle.matcher.proofs.head.Statement.{statement}
 use Rattle.matcher.proofs.head.Tie as tie
@@ -56,12 +55,5 @@ returns-5 c =
 pub head-spec : {M : Type 1} → statement M
 head-spec =
     tie.close
-    (tie.spec
-    returns
-    (search needs)
-    returns-2
-    slice-read
-    (search needs)
-    returns-3
-    returns-4
-    returns-5)
+    (tie.spec returns (λ c. omega arith) returns-2 slice-read (λ c. omega arith) returns-3
+    returns-4 returns-5)

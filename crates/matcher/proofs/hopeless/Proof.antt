@@ -1,6 +1,6 @@
 -- `matcher::hopeless` meets its contract. Assumes nothing.
 use mathlib.Core.Path.{sym, ap, _∙_}
-use borrow.Author.Needs.{needs}
+use native.Mathlib.Omega.{arith}
 use borrow.Author.Tests.{not-true}
 use Rattle.filter.specs.Support.{oneAtMost}
 use Rattle.matcher.proofs.TrialLaws.{uncovered}
@@ -16,4 +16,6 @@ returns c h =
     ∙ not-true (c .one-at-most .result) h)
 
 pub hopeless-spec : {M : Type 1} → statement M
-hopeless-spec = tie.close (tie.spec (search needs) (search needs) returns)
+hopeless-spec = tie.close (tie.spec (λ c. omega arith)
+    (λ c. omega arith)
+    returns)

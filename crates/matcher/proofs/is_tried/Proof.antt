@@ -1,7 +1,7 @@
 -- `matcher::is_tried` meets its contract. Assumes nothing.
 use mathlib.Core.Path.{refl}
 use Rattle.bits.specs.Bits.{has}
-use borrow.Author.Needs.{needs}
+use native.Mathlib.Omega.{arith}
 use Rattle.matcher.proofs.is_tried.Statement.{statement}
 use Rattle.matcher.proofs.is_tried.Tie as tie
 
@@ -10,4 +10,5 @@ unfolding has
 returns c = refl
 
 pub is-tried-spec : {M : Type 1} → statement M
-is-tried-spec = tie.close (tie.spec (search needs) returns)
+is-tried-spec = tie.close (tie.spec (λ c. omega arith)
+    returns)

@@ -2,7 +2,6 @@
 use mathlib.Core.Path.{_≡_}
 use Prim.Native.Nat.{_/_, _%_}
 use native.Mathlib.Omega.{arith}
-use borrow.Author.Needs.{needs}
 use Rattle.matcher.proofs.parts_of.Statement.{statement}
 use Rattle.matcher.proofs.parts_of.Tie as tie
 
@@ -15,4 +14,9 @@ returns c =
 pub parts-of-spec : {M : Type 1} → statement M
 parts-of-spec =
     tie.close
-    (tie.spec (search needs) (search needs) (search needs) (search needs) (search needs) returns)
+    (tie.spec (λ c. omega arith)
+    (λ c. omega arith)
+    (λ c. omega arith)
+    (λ c. omega arith)
+    (λ c. omega arith)
+    returns)

@@ -3,7 +3,6 @@
 use mathlib.Core.Path.{refl, sym, ap, _∙_}
 use Prim.Native.Nat.{_-_, _≤_}
 use native.Mathlib.Omega.{arith}
-use borrow.Author.Needs.{needs}
 use borrow.Author.Tests.{not-true}
 use Rattle.filter.specs.declared.Choices.{Choices}
 use Rattle.matcher.proofs.PlaceLaws.{place, directs-most}
@@ -140,44 +139,11 @@ returns-2 c =
 pub search-spec : {M : Type 1} → statement M
 search-spec =
     tie.close
-    (tie.spec
-    Inv-loop2
-    μ-loop2
-    Inv-loop
-    μ-loop
-    Inv-search
-    μ-search
-    (search needs)
-    (search needs)
-    (search needs)
-    search-holds
-    (search needs)
-    (search needs)
-    (search needs)
-    (search needs)
-    loop-holds
-    (search needs)
-    (search needs)
-    (search needs)
-    (search needs)
-    (search needs)
-    (search needs)
-    loop-again
-    loop2-holds
-    is-tried-requires
-    (search needs)
-    (search needs)
-    loop2-again
-    weigh-requires
-    (search needs)
-    (search needs)
-    (search needs)
-    loop2-again-2
-    (search needs)
-    (search needs)
-    loop-again-2
-    (search needs)
-    (search needs)
-    search-again
-    returns
+    (tie.spec Inv-loop2 μ-loop2 Inv-loop μ-loop Inv-search μ-search (λ c. omega arith)
+    (λ c. omega arith) (λ c. omega arith) search-holds (λ c. omega arith) (λ c. omega arith)
+    (λ c. omega arith) (λ c. omega arith) loop-holds (λ c. omega arith) (λ c. omega arith)
+    (λ c. omega arith) (λ c. omega arith) (λ c. omega arith) (λ c. omega arith) loop-again
+    loop2-holds is-tried-requires (λ c. omega arith) (λ c. omega arith) loop2-again weigh-requires
+    (λ c. omega arith) (λ c. omega arith) (λ c. omega arith) loop2-again-2 (λ c. omega arith)
+    (λ c. omega arith) loop-again-2 (λ c. omega arith) (λ c. omega arith) search-again returns
     returns-2)

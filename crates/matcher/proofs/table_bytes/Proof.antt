@@ -3,7 +3,6 @@ use mathlib.Core.Path.{_≡_, _∙_}
 use Prim.Native.Nat.{_-_, _*_, _^_}
 use native.Mathlib.Omega.{arith}
 use lib.Pow.{shl-exact}
-use borrow.Author.Needs.{needs}
 use borrow.Author.Tests.{le-leb, lt-leb}
 use Rattle.matcher.proofs.table_bytes.Statement.{statement}
 use Rattle.matcher.proofs.table_bytes.Tie as tie
@@ -19,4 +18,7 @@ returns-2 c =
     (shl-exact 1 k 64 (omega arith) (omega arith) ∙ alone)
 
 pub table-bytes-spec : {M : Type 1} → statement M
-table-bytes-spec = tie.close (tie.spec returns (search needs) (search needs) (search needs) returns-2)
+table-bytes-spec = tie.close (tie.spec returns (λ c. omega arith)
+    (λ c. omega arith)
+    (λ c. omega arith)
+    returns-2)

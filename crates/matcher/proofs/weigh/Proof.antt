@@ -1,6 +1,5 @@
 -- `matcher::weigh` meets its contract. Assumes nothing.
 use native.Mathlib.Omega.{arith}
-use borrow.Author.Needs.{needs}
 use borrow.Author.Tests.{not-true}
 use Rattle.matcher.proofs.PlaceLaws.{directs-most}
 use Rattle.matcher.proofs.TrialLaws.{rejects-missed, rejects-f, rejects-g, weighs}
@@ -59,19 +58,6 @@ returns-4 c =
 pub weigh-spec : {M : Type 1} → statement M
 weigh-spec =
     tie.close
-    (tie.spec
-    direct-set-requires
-    (search needs)
-    returns
-    (search needs)
-    (search needs)
-    (search needs)
-    returns-2
-    (search needs)
-    (search needs)
-    (search needs)
-    (search needs)
-    returns-3
-    (search needs)
-    (search needs)
-    returns-4)
+    (tie.spec direct-set-requires (λ c. omega arith) returns (λ c. omega arith) (λ c. omega arith)
+    (λ c. omega arith) returns-2 (λ c. omega arith) (λ c. omega arith) (λ c. omega arith)
+    (λ c. omega arith) returns-3 (λ c. omega arith) (λ c. omega arith) returns-4)

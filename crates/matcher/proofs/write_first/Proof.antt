@@ -1,7 +1,7 @@
 -- `matcher::write_first` meets its contract: what the search found is packed. Assumes nothing.
 use lib.ListN.{length}
 use denote.Ref.{now}
-use borrow.Author.Needs.{needs}
+use native.Mathlib.Omega.{arith}
 use Rattle.matcher.proofs.HeadLaws.{well-formed}
 use Rattle.matcher.proofs.EntryLaws.{matched-none, matched-found, place-small}
 use Rattle.matcher.proofs.write_first.Statement.{statement}
@@ -41,12 +41,5 @@ returns-2 c =
 pub write-first-spec : {M : Type 1} → statement M
 write-first-spec =
     tie.close
-    (tie.spec
-    search-requires
-    (search needs)
-    (search needs)
-    parts-of-requires
-    (search needs)
-    returns
-    (search needs)
-    returns-2)
+    (tie.spec search-requires (λ c. omega arith) (λ c. omega arith) parts-of-requires
+    (λ c. omega arith) returns (λ c. omega arith) returns-2)

@@ -53,14 +53,5 @@ returns-4 c = rw (← the-block (c .before .before), c .enum-told .given .1)
 pub judge-spec : {M : Type 1} → statement M
 judge-spec =
     tie.close
-    (tie.spec
-    (search needs)
-    returns
-    (search needs)
-    returns-2
-    (search needs)
-    (search needs)
-    (search needs)
-    (search needs)
-    returns-3
-    returns-4)
+    (tie.spec (search needs) returns (search needs) returns-2 (search needs) (search needs)
+    (search needs) (search needs) returns-3 returns-4)

@@ -12,7 +12,7 @@ returns c =
     let unpacked = c .before .before .unpacked .given in
     let k = unpacked .0 .0 in
     let place = c .before .before .before .before .args .place in
-    rw (unpacked .1, c .place-of .ensures) (sym (told-fault k (at (numberOf k) place .place) 0 0))
+    rw (unpacked .1, c .place-told .ensures) (sym (told-fault k (at (numberOf k) place .place) 0 0))
 
 returns-2 : tie.Need-returns-2
 returns-2 c = rw (c .enum-told .given .1)

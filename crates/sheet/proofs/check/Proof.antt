@@ -70,28 +70,7 @@ returns-3 c = walked-end _ _ _ _ (c .loop-test .left) (c .before .loop .inv)
 pub check-spec : {M : Type 1} → statement M
 check-spec =
     tie.close
-    (tie.spec
-    Inv-loop
-    μ-loop
-    (search needs)
-    returns
-    loop-holds
-    (search needs)
-    (search needs)
-    (search needs)
-    (search needs)
-    (search needs)
-    (search needs)
-    (search needs)
-    (search needs)
-    (search needs)
-    (search needs)
-    (search needs)
-    (search needs)
-    (search needs)
-    (search needs)
-    returns-2
-    (search needs)
-    (search needs)
-    loop-again
-    returns-3)
+    (tie.spec Inv-loop μ-loop (search needs) returns loop-holds (search needs) (search needs)
+    (search needs) (search needs) (search needs) (search needs) (search needs) (search needs)
+    (search needs) (search needs) (search needs) (search needs) (search needs) (search needs)
+    returns-2 (search needs) (search needs) loop-again returns-3)

@@ -57,13 +57,5 @@ returns c =
 pub digit-spec : {M : Type 1} → statement M
 digit-spec =
     tie.close
-    (tie.spec
-    Inv-loop
-    μ-loop
-    loop-holds
-    shared-requires
-    add-found
-    add-v
-    loop-less
-    loop-again
+    (tie.spec Inv-loop μ-loop loop-holds shared-requires add-found add-v loop-less loop-again
     returns)

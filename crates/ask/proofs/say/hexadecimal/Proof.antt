@@ -13,15 +13,5 @@ abbrev μ-loop : tie.MeasureT-loop
 pub hexadecimal-spec : {M : Type 1} → statement M
 hexadecimal-spec =
     tie.close
-    (tie.spec
-    Inv-loop
-    μ-loop
-    (search needs)
-    (search needs)
-    (search needs)
-    (search needs)
-    (search needs)
-    (search needs)
-    (search needs)
-    (search needs)
-    (search needs))
+    (tie.spec Inv-loop μ-loop (search needs) (search needs) (search needs) (search needs)
+    (search needs) (search needs) (search needs) (search needs) (search needs))

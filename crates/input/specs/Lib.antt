@@ -1,0 +1,2 @@
+-- What can be said of input. Assumes nothing.
+pub mod Input

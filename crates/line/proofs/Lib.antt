@@ -1,0 +1,5 @@
+-- The laws of the line. Assumes nothing.
+pub mod TextLaws
+pub mod PartLaws
+pub mod LineLaws
+pub mod SurplusLaws

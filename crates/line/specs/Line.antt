@@ -1,0 +1,68 @@
+-- The line that the program prints (document 01, "The program"). Assumes nothing.
+use Prim.Native.Nat.{ℕ, _+_}
+use mathlib.Core.List.{List, [], _∷_, _++_}
+use lib.Dec.{ltb}
+use lib.ListN.{length, replicate}
+use Rattle.block.specs.declared.Written.{Written}
+use Rattle.block.specs.declared.Written.the-variants.{Length, Refused}
+use Rattle.block.specs.declared.Kind.{Kind}
+use Rattle.block.specs.Table.{mostInputs, tableBytes}
+use Rattle.block.specs.Kind.{letterCode, typeOf}
+use Rattle.block.specs.Refusal.{_when_, firstOf, numberOf}
+use Rattle.block.specs.Answer.{Writes}
+use Rattle.codec.specs.Ten.{blockBytes, unpackOf}
+use Rattle.matcher.specs.Match.{Matched}
+use Rattle.line.specs.Text.{lineFeed, blank, hyphen, capitalR, hexadecimal, decimal}
+
+-- a type, as A-0
+abbrev pub typeText : Kind → List ℕ
+typeText k = letterCode (k .letter) ∷ hyphen ∷ decimal (k .digit)
+
+-- the type, a blank, twenty hexadecimal capitals, a line feed
+abbrev pub typedLine : (k : Kind) (ten : List ℕ) → List ℕ
+typedLine k ten = typeText k ++ (blank ∷ hexadecimal ten ++ (lineFeed ∷ []))
+
+-- the line of a block in ten bytes
+unfoldable pub blockLine : (ten : List ℕ) → List ℕ
+blockLine ten = typedLine (typeOf (unpackOf ten)) ten
+
+-- `R`, a blank, the number in decimal, a line feed
+unfoldable pub refusalLine : (number : ℕ) → List ℕ
+refusalLine number = capitalR ∷ blank ∷ decimal number ++ (lineFeed ∷ [])
+
+-- the line of matching's answer, with the ten bytes that were lent to it
+abbrev pub answerLine : (ten : List ℕ) → Written → List ℕ
+answerLine ten (Length used) = blockLine ten
+answerLine ten (Refused k) = refusalLine (numberOf k)
+
+-- a text at the start of a lent buffer: 5 if it does not fit
+abbrev pub WritesText : (text before after : List ℕ) (r : Written) → Type 0
+WritesText text before after r =
+    Writes (firstOf (5 when ltb (length before) (length text) ∷ [])) text before after r
+
+-- ten bytes of room
+abbrev pub tenZeros : List ℕ
+tenZeros = replicate blockBytes 0
+
+-- What the line of a table of n inputs promises: the text of the answer that matching gives with ten
+-- bytes of room.
+pub record Lines (n : ℕ) (t before after : List ℕ) (r : Written) : Type 0 where
+  pub answer : Written
+  pub ten : List ℕ
+  pub matched : Matched n t tenZeros ten answer
+  pub written : WritesText (answerLine ten answer) before after r
+
+-- What the line of the whole input promises: one byte n, then the table and nothing after it. Empty
+-- input is refusal 2.
+unfoldable pub Answers : (input before after : List ℕ) (r : Written) → Type 0
+Answers [] before after r = WritesText (refusalLine 2) before after r
+Answers (n ∷ t) before after r = Lines n t before after r
+
+-- so many bytes of the input decide its line: n, the longest table, and one more, which makes the
+-- length wrong
+abbrev pub enough : ℕ
+enough = 1 + tableBytes mostInputs + 1
+
+-- the length of the longest line
+abbrev pub longest : ℕ
+longest = 25
