@@ -1,6 +1,6 @@
 /*
- * Drawmitten for C and Rust: truth tables, blocks and patch sheets. Link target/staticlib/libdrawmitten_c.a, which
- * `rt staticlib drawmitten_c` proves and writes, for x86-64 Linux.
+ * Drawmitten for C and Rust: truth tables, covers, blocks and patch sheets. Link target/staticlib/libdrawmitten_c.a,
+ * which `rt staticlib drawmitten_c` proves and writes, for x86-64 Linux.
  *
  * THE ANSWER. Every call answers one number of 64 bits. Its low 8 bits are 0 for success, or the number of the refusal
  * (below). The bits above, `answer >> 8`, are the other part of the answer: what it is after success stands at each
@@ -20,6 +20,14 @@
  *
  * A TABLE of n inputs, n from 0 to 9, has 2^n rows, row 0 in the most significant bit of the first byte: one byte for n
  * up to 3, with zeros after the last row, and 2^(n-3) bytes above. In row r, variable i is bit i of r.
+ * A COVER is a text, one `.names` part of BLIF. Its lines end with LF, CR LF or the end of the text; any other CR is a
+ * byte of its line, and outside a comment makes the text no cover. `#` starts a comment to the line's end, whatever bytes
+ * are in it, a backslash too. Blanks and tabs separate words, and lines without words are skipped. The first line with
+ * words has the word `.names`, then names of bytes 33 to 126 without `#` and backslash: those of the inputs, if any, and
+ * the output's. Every other line has two words: the marks, a `0`, `1` or `-` for each input, and the output, `0` or `1`;
+ * without inputs it has the output alone. A text with anything else is no cover. Input i, counted from 0, is variable i.
+ * A line covers the rows that agree with its marks, `-` with either bit. A row is 1 if a line with output 1 covers it, or
+ * if there are lines with output 0 and none of them covers it; without lines every row is 0.
  * A BLOCK is ten bytes: nine pin fields of 4 bits (four of F, four of G, the direct pin), each a variable below n or 15
  * for open, then 16 rows of F, 16 of G, 8 of H, row 0 first, then 4 zero bits. Its value is H(F, G, direct pin). In F
  * and G the first pin weighs 8, then 4, 2, 1; in H the output of F weighs 4, that of G 2, the direct pin 1. An open pin
@@ -30,12 +38,13 @@
  * number. An empty one has length 0.
  *
  * REFUSALS
- *    1  n is above 9
+ *    1  n, or the number of a cover's inputs, is above 9
  *    2  a table, a block (not 10 bytes) or a sheet (not a multiple of 14, or above 65,534) has the wrong length; a used
  *       length exceeds its buffer
  *    3  a table's padding is not zero
  *    4  no match: no block computes the table
- *    5  fewer than 10 bytes of room for a block; fewer than 14 for a record, or 4,681 records already
+ *    5  fewer than 10 bytes of room for a block; fewer than the table has, for a table; fewer than 14 for a record, or
+ *       4,681 records already
  *    6  a pin field is neither below n nor 15 (16 and more included)
  *    7  F or G out of order, repeated, or open before carried
  *    8  a row that needs a 1 on an open pin is set
@@ -44,6 +53,9 @@
  *   11  a record's number pair is not above the one before it
  *   12  no record has the number pair, or the place, asked for
  *   13  row number 2^n or more
+ *   15  a text is no cover; a backslash outside a comment makes it none, and so do `.model`, `.end` and a second `.names`
+ *   16  a cover uses a name twice, the output's included; names are compared whole, and `EN` and `En` are two
+ *   17  a cover has lines with output 1 and lines with output 0
  * Where several apply, the first in the order given at the call is the answer.
  */
 #ifndef DRAWMITTEN_H
@@ -55,6 +67,10 @@
 #ifdef __cplusplus
 extern "C" {
 #endif
+
+/* Writes at the start of `out` the table of a cover. After success: n is `(answer >> 8) & 255`, and the length in use,
+ * the table's, is `answer >> 16`. 64 bytes of room are enough for every cover. Refusals: 15, 1, 16, 17, 5. */
+uint64_t drawmitten_cover(const uint8_t *text, size_t len, uint8_t *out, size_t room);
 
 /* Writes at the start of `out` the ten bytes of the first tidy block, in byte order, that computes the table.
  * After success: the length in use, 10. Refusals: 1, 2, 3, 5, 4. */

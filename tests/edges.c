@@ -16,15 +16,18 @@
 #include <stdlib.h>
 #include <string.h>
 
-enum { BLOCK = 10, RECORD = 14, MOST_INPUTS = 9, LONGEST_TABLE = 64, OPEN = 15 };
+enum { BLOCK = 10, RECORD = 14, MOST_INPUTS = 9, LONGEST_TABLE = 64, OPEN = 15, LAST_REFUSAL = 17 };
 
-/* How many calls there must be of each, and in all; rounds of blocks and of sheets, and records of a sheet. */
-enum { LEAST_OF_EACH = 500, LEAST = 10000, BLOCK_ROUNDS = 3000, SHEET_ROUNDS = 150, SHEET_RECORDS = 12 };
+/* How many calls there must be of each, and in all. */
+enum { LEAST_OF_EACH = 500, LEAST = 10000 };
 
-enum call { MATCH, CHECK, EVALUATE, TYPE, PACK, SHEET_CHECK, SHEET_READ, SHEET_FIND, SHEET_APPEND, CALLS };
+/* Rounds of blocks, of sheets and of covers, and records of a sheet. */
+enum { BLOCK_ROUNDS = 3000, SHEET_ROUNDS = 150, SHEET_RECORDS = 12, COVER_ROUNDS = 1500 };
 
-static const char *const names[CALLS] = {"match",       "check",      "evaluate",   "type",        "pack",
-                                         "sheet_check", "sheet_read", "sheet_find", "sheet_append"};
+enum call { COVER, MATCH, CHECK, EVALUATE, TYPE, PACK, SHEET_CHECK, SHEET_READ, SHEET_FIND, SHEET_APPEND, CALLS };
+
+static const char *const names[CALLS] = {"cover", "match",       "check",      "evaluate",   "type",
+                                         "pack",  "sheet_check", "sheet_read", "sheet_find", "sheet_append"};
 static unsigned long made[CALLS];
 static uint64_t seed, state;
 
@@ -118,7 +121,7 @@ static uint64_t read_only(enum call call, uint64_t answer, struct lent *lent)
     made[call]++;
     if (!kept(lent, 0, lent->length))
         differ("%s changes what it is lent to read", names[call]);
-    if (number(answer) > 13)
+    if (number(answer) > LAST_REFUSAL)
         differ("%s answers %#" PRIx64, names[call], answer);
     give_back(lent);
     return answer;
@@ -147,6 +150,28 @@ static uint64_t plain(enum call call, uint64_t answer)
     if (number(answer) != 0 && part(answer) != 0)
         differ("%s refuses with %u and the other part %" PRIu64, names[call], number(answer), part(answer));
     return answer;
+}
+
+static size_t table_length(unsigned n)
+{
+    return n < 3 ? 1 : (size_t)1 << (n - 3);
+}
+
+/* The inputs of a cover that was read. */
+static unsigned inputs(uint64_t answer)
+{
+    return answer >> 8 & 255;
+}
+
+static uint64_t cover(const void *text, size_t length, uint8_t *table, size_t room)
+{
+    struct lent in = lend(text, length), out = lend_room(room);
+    uint64_t answer = drawmitten_cover(in.bytes, length, out.bytes, room);
+    read_only(COVER, answer, &in);
+    if (inputs(answer) > MOST_INPUTS)
+        differ("cover answers %#" PRIx64, answer);
+    written(COVER, answer >> 16 << 8 | number(answer), &out, 0, table_length(inputs(answer)), table);
+    return plain(COVER, answer);
 }
 
 static uint64_t match(uint8_t n, const uint8_t *table, size_t length, uint8_t *ten, size_t room)
@@ -243,11 +268,6 @@ static uint64_t sheet_append(const uint8_t *sheet, size_t used, size_t room, con
 }
 
 /* ---- tables and blocks */
-
-static size_t table_length(unsigned n)
-{
-    return n < 3 ? 1 : (size_t)1 << (n - 3);
-}
 
 static void set_row(uint8_t *table, uint32_t row)
 {
@@ -643,6 +663,136 @@ static void try_sheet(void)
     }
 }
 
+/* ---- covers */
+
+/* A text with the number that it is refused with, or its n and the first byte of its table. */
+static const struct {
+    const char *text;
+    unsigned number, n;
+    uint8_t first;
+} covers[] = {
+    {".names y", 0, 0, 0x00},
+    {".names y\n 1\n", 0, 0, 0x80},
+    {".names y\n0", 0, 0, 0x00},
+    {".names a y\n1 1", 0, 1, 0x40},
+    {".names a y\r\n1 0\r\n", 0, 1, 0x80},
+    {"# a\n\t.names a#\\\n\n0#\r", 0, 0, 0x00},
+    {".names a b y\n10 1\n", 0, 2, 0x40},
+    {".names a b y\n-1 0", 0, 2, 0xC0},
+    {".names a b c y\n1-- 1\n--1 1", 0, 3, 0x5F},
+    {".names a b c d y\n-000 1", 0, 4, 0xC0},
+    {".names a b c d e f g h i y\n--------0 1\n", 0, 9, 0xFF},
+    {"", 15, 0, 0},
+    {"#", 15, 0, 0},
+    {".names", 15, 0, 0},
+    {".names y\n1\r", 15, 0, 0},
+    {".names a \\\n y\n1 1\n", 15, 0, 0},
+    {".names a y\n1 1\n.end\n", 15, 0, 0},
+    {".names a b c d e f g h i j y\n---------- 1\n--------- 1", 15, 0, 0},
+    {".names a b c d e f g h i a y\n---------- 1", 1, 0, 0},
+    {".names a b a\n11 1\n00 0\n", 16, 0, 0},
+    {".names a y\n1 1\n0 0", 17, 0, 0},
+};
+
+/* Each of these texts with room and with too little; and, for valgrind, each cut at every length. */
+static void try_known_covers(void)
+{
+    uint8_t table[LONGEST_TABLE];
+    for (size_t k = 0; k < sizeof covers / sizeof *covers; k++) {
+        size_t length = strlen(covers[k].text), needed = table_length(covers[k].n);
+        unsigned wanted = covers[k].number;
+        uint64_t answer = cover(covers[k].text, length, table, needed + below(4));
+        if (number(answer) != wanted || (wanted == 0 && (inputs(answer) != covers[k].n || table[0] != covers[k].first)))
+            differ("cover %zu of those known is another: %#" PRIx64, k, answer);
+        if (cover(covers[k].text, length, table, needed - 1) != (wanted != 0 ? wanted : 5))
+            differ("cover %zu of those known is read without room", k);
+        while (length > 0)
+            cover(covers[k].text, --length, table, LONGEST_TABLE);
+    }
+}
+
+/* A text that grows; the longest has a line for each of 512 rows. */
+struct text {
+    size_t length;
+    char bytes[16384];
+};
+
+static void add(struct text *text, const char *more)
+{
+    strcpy(text->bytes + text->length, more);
+    text->length += strlen(more);
+}
+
+/* Adds one of the ways to separate two words. */
+static void add_blank(struct text *text)
+{
+    static const char *const ways[] = {" ", "\t", "  ", "\t \t"};
+    add(text, ways[below(sizeof ways / sizeof *ways)]);
+}
+
+/* Adds one of the ways to end a line. */
+static void add_end(struct text *text)
+{
+    static const char *const ways[] = {"\n", "\r\n", " \n", "\n\n", "\t#\\\n", "#\r 1\r\n"};
+    add(text, ways[below(sizeof ways / sizeof *ways)]);
+}
+
+/* A cover with a line for each row that is 1 in a table. */
+static void some_cover(unsigned n, const uint8_t *table, struct text *text)
+{
+    text->length = 0;
+    add(text, ".names");
+    for (char name[] = "a"; name[0] <= 'a' + (int)n; name[0]++) {
+        add_blank(text);
+        add(text, name);
+    }
+    for (uint32_t row = 0; row < 1u << n; row++) {
+        if (table[row / 8] >> (7 - row % 8) & 1) {
+            add_end(text);
+            for (unsigned variable = 0; variable < n; variable++)
+                add(text, row >> variable & 1 ? "1" : "0");
+            add_blank(text);
+            add(text, "1");
+        }
+    }
+    if (one_in(2))
+        add_end(text);
+}
+
+/* A text by whatever damage: with less room the answer is the same, or 5 for a cover that was read. */
+static void try_rooms(const struct text *text)
+{
+    uint8_t table[LONGEST_TABLE], again[LONGEST_TABLE];
+    size_t room = below(LONGEST_TABLE + 2);
+    uint64_t answer = cover(text->bytes, text->length, table, LONGEST_TABLE + below(2));
+    uint64_t other = cover(text->bytes, text->length, again, room);
+    if (other != (number(answer) == 0 && room < answer >> 16 ? 5 : answer))
+        differ("cover answers %#" PRIx64 ", and with room %zu %#" PRIx64, answer, room, other);
+    if (number(other) == 0 && memcmp(table, again, answer >> 16) != 0)
+        differ("cover writes two tables for one text");
+}
+
+/* A table as a cover: it is read back, and matching takes it. Then the text is damaged and cut. */
+static void try_cover(void)
+{
+    uint8_t n = (uint8_t)below(MOST_INPUTS + 1), table[LONGEST_TABLE], again[LONGEST_TABLE], ten[BLOCK];
+    struct text text;
+    for (size_t k = 0; k < sizeof table; k++)
+        table[k] = (uint8_t)(below(256) & below(256));
+    if (n < 3)
+        table[0] &= (uint8_t)(0xFF00 >> (1 << n));
+    some_cover(n, table, &text);
+    uint64_t answer = cover(text.bytes, text.length, again, table_length(n) + below(3));
+    if (number(answer) != 0 || inputs(answer) != n || memcmp(table, again, table_length(n)) != 0)
+        differ("the table of a cover of %u inputs is another: %#" PRIx64, n, answer);
+    unsigned given = n < 6 || one_in(50) ? number(match(n, again, table_length(n), ten, BLOCK)) : 4;
+    if (given != 0 && (given != 4 || n < 6))
+        differ("the table of a cover of %u inputs is refused with %u", n, given);
+    damage((uint8_t *)text.bytes, text.length);
+    text.length = one_in(4) ? below((uint32_t)text.length + 1) : text.length;
+    try_rooms(&text);
+}
+
 /* ---- the whole */
 
 /* Prints how often each was called; fails if that is too little. */
@@ -681,6 +831,9 @@ int main(int count, char **words)
     }
     for (int round = 0; round < SHEET_ROUNDS; round++)
         try_sheet();
+    try_known_covers();
+    for (int round = 0; round < COVER_ROUNDS; round++)
+        try_cover();
     account();
     return 0;
 }

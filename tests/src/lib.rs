@@ -5,6 +5,7 @@ pub mod bench;
 pub mod blemish;
 pub mod block;
 pub mod blocks;
+pub mod covers;
 pub mod document;
 #[cfg(test)]
 mod header;

@@ -34,6 +34,13 @@ impl Answer {
     }
 }
 
+/// Reads a cover.
+pub fn cover(text: &[u8], out: &mut [u8]) -> Answer {
+    let (lent, length) = (text.as_ptr(), text.len());
+    let (out, room) = (out.as_mut_ptr(), out.len());
+    Answer::of(unsafe { calls::drawmitten_cover(lent, length, out, room) })
+}
+
 /// Matches a table of n inputs.
 pub fn match_table(n: u8, table: &[u8], out: &mut [u8]) -> Answer {
     let (lent, room) = (out.as_mut_ptr(), out.len());

@@ -18,6 +18,11 @@ pub fn table_of(n: usize, rule: impl Fn(usize) -> bool) -> Vec<u8> {
     table
 }
 
+/// Whether a table is 1 on a row.
+pub fn holds(table: &[u8], row: usize) -> bool {
+    table[row / 8] >> (7 - row % 8) & 1 == 1
+}
+
 /// The number with which bytes are refused that are no table of n inputs.
 pub fn refusal(n: u8, table: &[u8]) -> Option<u8> {
     if n > 9 {

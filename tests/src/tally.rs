@@ -5,6 +5,9 @@ use std::time::Instant;
 /// A kind of answer, and the numbers that must have come, such as 0 for success.
 pub type Kind = (&'static str, &'static [usize]);
 
+/// The greatest number that can come: that of the last refusal.
+const GREATEST: usize = 17;
+
 /// How far a comparison is.
 #[derive(Clone, Copy)]
 struct Mark {
@@ -20,7 +23,7 @@ pub struct Tally {
     things: &'static str,
     kinds: &'static [Kind],
     /// How often each number came for each kind.
-    given: Vec<[usize; 14]>,
+    given: Vec<[usize; GREATEST + 1]>,
     now: Mark,
     /// Where the group under way began, and the whole.
     group: Mark,
@@ -46,7 +49,7 @@ impl Tally {
             name,
             things,
             kinds,
-            given: vec![[0; 14]; kinds.len()],
+            given: vec![[0; GREATEST + 1]; kinds.len()],
             now: start,
             group: start,
             start,

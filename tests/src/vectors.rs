@@ -30,12 +30,12 @@ fn line_of(text: &str) -> Line {
     }
 }
 
-/// The names of the vector files in a folder.
-pub fn files(folder: &str) -> Vec<String> {
+/// The names with an ending that files in a folder have.
+pub fn files(folder: &str, ending: &str) -> Vec<String> {
     let entries = std::fs::read_dir(folder).unwrap_or_else(|wrong| panic!("{folder}: {wrong}"));
     let names = entries.map(|entry| entry.expect("a name").file_name());
     let names = names.map(|name| name.into_string().expect("a plain name"));
-    let mut names: Vec<String> = names.filter(|name| name.ends_with(".txt")).collect();
+    let mut names: Vec<String> = names.filter(|name| name.ends_with(ending)).collect();
     assert!(!names.is_empty(), "{folder} has no vectors");
     names.sort();
     names
@@ -50,7 +50,7 @@ pub fn lines(path: &str) -> Vec<Line> {
 
 /// Every line of every vector file in a folder.
 pub fn all(folder: &str) -> Vec<Line> {
-    let names = files(folder).into_iter();
+    let names = files(folder, ".txt").into_iter();
     names
         .flat_map(|name| lines(&format!("{folder}/{name}")))
         .collect()

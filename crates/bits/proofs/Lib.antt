@@ -3,6 +3,8 @@ pub mod UniqueLaws
 pub mod TestLaws
 pub mod SearchLaws
 pub mod ListLaws
+pub mod AnyLaws
+pub mod ElementLaws
 pub mod CountLaws
 pub mod XorLaws
 pub mod BitLaws

@@ -2,3 +2,4 @@
 -- Assumes nothing.
 pub mod Bits
 pub mod Tests
+pub mod Elements

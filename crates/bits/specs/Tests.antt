@@ -51,3 +51,13 @@ alike [] [] = true
 alike [] (y ∷ t) = false
 alike (x ∷ s) [] = false
 alike (x ∷ s) (y ∷ t) = eqb x y && alike s t
+
+-- the test holds of every element
+abbrev pub all : {A : Type 0} (test : A → Bool) → List A → Bool
+all test [] = true
+all test (x ∷ xs) = test x && all test xs
+
+-- the test holds of some element
+abbrev pub any : {A : Type 0} (test : A → Bool) → List A → Bool
+any test [] = false
+any test (x ∷ xs) = test x || any test xs

@@ -3,3 +3,4 @@ pub mod RefusalLaws
 pub mod AnswerLaws
 pub mod TidyLaws
 pub mod LetterLaws
+pub mod TableLaws

@@ -43,7 +43,7 @@ pub struct Kind {
     pub digit: u8,
 }
 
-// The numbered refusals of document 01.
+// The numbered refusals of document 01 and of the requests.
 pub enum Refusal {
     R1,
     R2,
@@ -58,6 +58,9 @@ pub enum Refusal {
     R11,
     R12,
     R13,
+    R15,
+    R16,
+    R17,
 }
 
 // The answer of a writer.
@@ -84,5 +87,8 @@ pub fn number(k: Refusal) -> u8
         Refusal::R11 => 11,
         Refusal::R12 => 12,
         Refusal::R13 => 13,
+        Refusal::R15 => 15,
+        Refusal::R16 => 16,
+        Refusal::R17 => 17,
     }
 }

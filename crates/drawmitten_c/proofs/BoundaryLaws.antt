@@ -8,7 +8,7 @@ use Rattle.block.specs.declared.Written.{Written}
 use Rattle.block.specs.declared.Parts.{Parts}
 use Rattle.block.specs.declared.Refusal.{Refusal}
 use Rattle.block.specs.declared.Refusal.the-variants.{R1, R2, R3, R4, R5, R6, R7, R8, R9, R10}
-use Rattle.block.specs.declared.Refusal.the-variants.{R11, R12, R13}
+use Rattle.block.specs.declared.Refusal.the-variants.{R11, R12, R13, R15, R16, R17}
 use Rattle.block.specs.declared.Letter.{Letter}
 use Rattle.block.specs.declared.Letter.the-variants.{A, B, C}
 use Rattle.block.specs.Block.{Block}
@@ -25,8 +25,9 @@ use Rattle.matcher.specs.Match.{Matched, refused, unmatched, matched}
 use Rattle.matcher.proofs.UniqueMatch.{match-unique, acceptable}
 use Rattle.record.specs.Record.{Record}
 use Rattle.record.specs.Told.{Placed}
-use Rattle.drawmitten_c.specs.Boundary.{answerWord, Worded, MatchesC, PacksC, WrittenC}
-use Rattle.drawmitten_c.specs.Boundary.{CopiesC, AppendsC}
+use Rattle.drawmitten_c.specs.Boundary.{Worded, writtenWord, MatchesC, PacksC, WrittenC}
+use Rattle.blif.proofs.CoverLaws.{reads-unique}
+use Rattle.drawmitten_c.specs.Boundary.{coverWord, CopiesC, AppendsC, CoversC}
 
 -- the low 8 bits are the number, the bits above them the other part; so for a letter and its digit
 pub word-apart : (number part : ℕ) → number < 256
@@ -48,6 +49,9 @@ number-small R10 = omega arith
 number-small R11 = omega arith
 number-small R12 = omega arith
 number-small R13 = omega arith
+number-small R15 = omega arith
+number-small R16 = omega arith
+number-small R17 = omega arith
 
 pub letter-small : (l : Letter) → letterCode l < 256
 letter-small A = omega arith
@@ -79,22 +83,22 @@ pack-fits n x before after r w =
     let ten = packed-length x in writes-fit _ _ _ _ r w (omega arith)
 
 -- two promises that leave one answer and one buffer leave one number
-worded-unique : (P P' : Written → Type 0) (after after' : List ℕ) (r q : ℕ)
-    → ((a b : Written) → P a → P' b → (a ≡ b) × (after ≡ after'))
-    → Worded P r → Worded P' q → (r ≡ q) × (after ≡ after')
-worded-unique P P' after after' r q unique p p' =
+worded-unique : {A : Type 0} (wordOf : A → ℕ) (P P' : A → Type 0) (after after' : List ℕ) (r q : ℕ)
+    → ((a b : A) → P a → P' b → (a ≡ b) × (after ≡ after'))
+    → Worded wordOf P r → Worded wordOf P' q → (r ≡ q) × (after ≡ after')
+worded-unique wordOf P P' after after' r q unique p p' =
     let same = unique (p .answer) (p' .answer) (p .promised) (p' .promised) in
-    (p .word ∙ ap (λ (w : Written). answerWord (writtenOf w)) (same .0) ∙ sym (p' .word), same .1)
+    (p .word ∙ ap wordOf (same .0) ∙ sym (p' .word), same .1)
 
 pub match-c-unique : (n : ℕ) (t before after after' : List ℕ) (r q : ℕ)
     → MatchesC n t before after r → MatchesC n t before after' q → (r ≡ q) × (after ≡ after')
 match-c-unique n t before after after' r q =
-    worded-unique _ _ after after' r q (match-unique n t before after after')
+    worded-unique writtenWord _ _ after after' r q (match-unique n t before after after')
 
 pub pack-c-unique : (n : ℕ) (b : Block) (before after after' : List ℕ) (r q : ℕ)
     → PacksC n b before after r → PacksC n b before after' q → (r ≡ q) × (after ≡ after')
 pack-c-unique n b before after after' r q =
-    worded-unique _ _ after after' r q (pack-unique n b before after after')
+    worded-unique writtenWord _ _ after after' r q (pack-unique n b before after after')
 
 -- what is written, and the number, are one
 written-c-unique : (answer : Answer (Placed ℕ)) (buffer after after' : List ℕ) (r q : ℕ)
@@ -110,3 +114,8 @@ pub append-c-unique : (before : List ℕ) (used : ℕ) (x : Record) (after after
     → AppendsC before used x after r → AppendsC before used x after' q
     → (r ≡ q) × (after ≡ after')
 append-c-unique before used x = written-c-unique _ _
+
+pub cover-c-unique : (text before after after' : List ℕ) (r q : ℕ)
+    → CoversC text before after r → CoversC text before after' q → (r ≡ q) × (after ≡ after')
+cover-c-unique text before after after' r q =
+    worded-unique coverWord _ _ after after' r q (reads-unique text before after after')

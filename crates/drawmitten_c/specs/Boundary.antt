@@ -18,20 +18,26 @@ use Rattle.sheet.specs.Check.{sheetAnswer}
 use Rattle.finding.specs.Find.{placeAnswer}
 use Rattle.finding.specs.Read.{copyAnswer, copiedInto}
 use Rattle.append.specs.Append.{appendAnswer, sheetAfter}
+use Rattle.blif.specs.declared.Cover.{Cover}
+use Rattle.blif.specs.Cover.{readOf, Reads}
 
 -- of an answer with one other part: the length in use, or the bit
 abbrev pub answerWord : Answer ℕ → ℕ
 answerWord a = a .number + a .parts * 256
 
--- the number stands for an answer that a writer promises
-pub record Worded (Promised : Written → Type 0) (r : ℕ) : Type 0 where
-  pub answer : Written
+-- the number stands for an answer that is promised
+pub record Worded {A : Type 0} (wordOf : A → ℕ) (Promised : A → Type 0) (r : ℕ) : Type 0 where
+  pub answer : A
   pub promised : Promised answer
-  pub word : r ≡ answerWord (writtenOf answer)
+  pub word : r ≡ wordOf answer
+
+-- a writer's answer
+abbrev pub writtenWord : Written → ℕ
+writtenWord answer = answerWord (writtenOf answer)
 
 -- the ten bytes of the first match in a lent buffer, and the length in use
 abbrev pub MatchesC : (n : ℕ) (t before after : List ℕ) (r : ℕ) → Type 0
-MatchesC n t before after r = Worded (Matched n t before after) r
+MatchesC n t before after r = Worded writtenWord (Matched n t before after) r
 
 -- the number alone
 abbrev pub ChecksC : (n : ℕ) (s : List ℕ) (r : ℕ) → Type 0
@@ -41,13 +47,13 @@ ChecksC n s r = r ≡ checkRefusal n s
 abbrev pub EvaluatesC : (n : ℕ) (s : List ℕ) (row r : ℕ) → Type 0
 EvaluatesC n s row r = r ≡ answerWord (evaluateAnswer n s row)
 
--- of a type: its letter in ASCII in 8 bits, and above them its digit
-abbrev pub typeWord : Answer (ℕ × ℕ) → ℕ
-typeWord a = a .number + (a .parts .0 + a .parts .1 * 256) * 256
+-- of an answer with two other parts: the first in 8 bits, and above them the second
+abbrev pub twoPartWord : Answer (ℕ × ℕ) → ℕ
+twoPartWord a = a .number + (a .parts .0 + a .parts .1 * 256) * 256
 
--- letter and digit
+-- the type's letter in ASCII, and its digit
 abbrev pub TypesC : (n : ℕ) (s : List ℕ) (r : ℕ) → Type 0
-TypesC n s r = r ≡ typeWord (typeAnswer n s)
+TypesC n s r = r ≡ twoPartWord (typeAnswer n s)
 
 -- a table whose four pins are the four fields from field `at` on
 abbrev pub lutFrom : (fields : List ℕ) (at rows : ℕ) → Lut
@@ -69,7 +75,7 @@ blockFrom fields f g h =
 
 -- the ten bytes of a block in a lent buffer, and the length in use
 abbrev pub PacksC : (n : ℕ) (b : Block) (before after : List ℕ) (r : ℕ) → Type 0
-PacksC n b before after r = Worded (Packs n b before after) r
+PacksC n b before after r = Worded writtenWord (Packs n b before after) r
 
 -- of an answer about a sheet: the value, or the place after a refusal, one of which is 0
 abbrev pub toldWord : Answer (Placed ℕ) → ℕ
@@ -102,3 +108,11 @@ CopiesC s place before after r =
 abbrev pub AppendsC : (before : List ℕ) (used : ℕ) (x : Record) (after : List ℕ) (r : ℕ) → Type 0
 AppendsC before used x after r =
     WrittenC (appendAnswer before used x) (sheetAfter before used x) after r
+
+-- n and the length in use
+abbrev pub coverWord : Cover → ℕ
+coverWord answer = twoPartWord (readOf answer)
+
+-- a cover's table in a lent buffer, n, and the length in use
+abbrev pub CoversC : (text before after : List ℕ) (r : ℕ) → Type 0
+CoversC text before after r = Worded coverWord (Reads text before after) r

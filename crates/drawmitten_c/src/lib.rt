@@ -9,6 +9,8 @@ ghost use Rattle.record.specs.Told.{toldOf};
 ghost use Rattle.drawmitten_c.specs.Boundary.{answerWord, MatchesC, ChecksC, EvaluatesC, TypesC, PacksC};
 ghost use Rattle.drawmitten_c.specs.Boundary.{lutFrom, blockFrom};
 ghost use Rattle.drawmitten_c.specs.Boundary.{toldWord, Of32Bits, CountsC, PlacesC, CopiesC, AppendsC};
+ghost use Rattle.drawmitten_c.specs.Boundary.{CoversC};
+use blif::Cover;
 use block::FourPin;
 use block::Parts;
 use block::Written;
@@ -162,4 +164,16 @@ pub extern "C" fn drawmitten_sheet_append(
 {
     let x = Numbers { craft, block, n };
     told_word(append::append(s, used, x, ten))
+}
+
+// The table of one `.names` part: n, and above it the length in use.
+#[no_mangle]
+pub extern "C" fn drawmitten_cover(text: &[u8], out: &mut [u8]) -> u64
+    ensures { λ r. ⌜ CoversC (now (text .entry)) (now (out .entry)) (now (out .exit)) r ⌝ }
+{
+    let read = blif::read(text, out);
+    match read {
+        Cover::Table(n, used) => (n as u64) * 256 + (used as u64) * 65536,
+        Cover::Refused(k) => block::number(k) as u64,
+    }
 }

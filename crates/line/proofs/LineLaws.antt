@@ -1,6 +1,6 @@
 -- The promises of the line leave one line, which is within the buffer and no longer than the longest. Assumes
 -- nothing.
-use mathlib.Core.Path.{_≡_, _∙_}
+use mathlib.Core.Path.{_≡_, sym, ap₂, _∙_}
 use mathlib.Core.List.{List, [], _∷_}
 use Prim.Native.Nat.{ℕ, _≤_}
 use native.Mathlib.Omega.{arith}
@@ -19,13 +19,14 @@ use Rattle.codec.specs.Ten.{unpackOf}
 use Rattle.codec.proofs.CheckLaws.{accepted-of-none}
 use Rattle.matcher.specs.Match.{Matched}
 use Rattle.matcher.proofs.UniqueMatch.{match-unique}
+use Rattle.line.specs.declared.Said.{Said}
 use Rattle.line.specs.Text.{decimal}
 use Rattle.line.specs.Line.{blockLine, refusalLine, answerLine, WritesText}
-use Rattle.line.specs.Line.{tenZeros, Lines, Answers, longest}
+use Rattle.line.specs.Line.{tenZeros, Says, Lines, Answers, longest}
 use Rattle.line.proofs.TextLaws.{hexadecimal-length, decimal-one}
-use Rattle.line.proofs.PartLaws.{digit-lt, ten-checked}
+use Rattle.line.proofs.PartLaws.{digit-lt, ten-checked, says-lines}
 
-text-unique : (text before after after' : List ℕ) (r q : Written) → WritesText text before after r
+pub text-unique : (text before after after' : List ℕ) (r q : Written) → WritesText text before after r
     → WritesText text before after' q → (r ≡ q) × (after ≡ after')
 text-unique text before after after' r q w w' =
     written-unique (pick (ltb (length before) (length text)) 5 0) text before after after' r q w w'
@@ -36,6 +37,23 @@ lines-unique n t before after after' r q p p' =
     let same = match-unique n t tenZeros (p .ten) (p' .ten) (p .answer) (p' .answer) (p .matched) (p' .matched) in
     let text = answerLine (p .ten) (p .answer) in
     text-unique text before after after' r q (p .written) (rw (same .0, same .1) (p' .written))
+
+abbrev said : (number : ℕ) (line : Written) → Said
+said number line = record { number = number; line = line }
+
+-- what is said, by its two parts
+pub said-same : (r q : Said) → r .number ≡ q .number → r .line ≡ q .line → r ≡ q
+said-same r q number line = ap₂ said number line
+
+pub says-unique : (n : ℕ) (t before after after' : List ℕ) (r q : Said) → Says n t before after r
+    → Says n t before after' q → (r ≡ q) × (after ≡ after')
+says-unique n t before after after' r q p p' =
+    let same = match-unique n t tenZeros (p .ten) (p' .ten) (p .answer) (p' .answer) (p .matched) (p' .matched) in
+    let number : r .number ≡ q .number = p .number ∙ rw (same .0) (sym (p' .number)) in
+    let lines = says-lines n t before after r p in
+    let lines' = says-lines n t before after' q p' in
+    let line = lines-unique n t before after after' (r .line) (q .line) lines lines' in
+    (said-same r q number (line .0), line .1)
 
 pub answers-unique : (input before after after' : List ℕ) (r q : Written) → Answers input before after r
     → Answers input before after' q → (r ≡ q) × (after ≡ after')
@@ -53,43 +71,60 @@ unfolding blockLine
 block-length ten long =
     rw (decimal-one _ (digit-lt (unpackOf ten)), length-append, hexadecimal-length ten) (omega arith)
 
--- the text that was written, or had no room for it
-record Short (before after : List ℕ) (r : Written) : Type 0 where
-  text : List ℕ
-  short : length text ≤ longest
-  written : WritesText text before after r
-
 answer-length : (n : ℕ) (t ten : List ℕ) (answer : Written) → Matched n t tenZeros ten answer
     → length (answerLine ten answer) ≤ longest
 answer-length n t ten (Length used) m =
     omega (arith, block-length ten (accepted-of-none n ten (ten-checked n t ten used m) .ten))
 answer-length n t ten (Refused k) m = omega (arith, refusal-length (numberOf k))
 
-answer-text : (input before after : List ℕ) (r : Written) → Answers input before after r → Short before after r
-unfolding Answers
-answer-text [] before after r w =
-    record { text = refusalLine 2; short = omega (arith, refusal-length 2); written = w }
-answer-text (n ∷ t) before after r l =
+-- a text no longer than the longest line that was written, or had no room
+pub record Short (before after : List ℕ) (r : Written) : Type 0 where
+  pub text : List ℕ
+  pub short : length text ≤ longest
+  pub written : WritesText text before after r
+
+pub refusal-short : (number : ℕ) (before after : List ℕ) (r : Written)
+    → WritesText (refusalLine number) before after r → Short before after r
+refusal-short number before after r w =
+    record { text = refusalLine number; short = omega (arith, refusal-length number); written = w }
+
+pub lines-short : (n : ℕ) (t before after : List ℕ) (r : Written) → Lines n t before after r
+    → Short before after r
+lines-short n t before after r l =
     record {
       text = answerLine (l .ten) (l .answer);
       short = answer-length n t (l .ten) (l .answer) (l .matched);
       written = l .written;
     }
 
+answers-short : (input before after : List ℕ) (r : Written) → Answers input before after r
+    → Short before after r
+unfolding Answers
+answers-short [] before after r w = refusal-short 2 before after r w
+answers-short (n ∷ t) before after r l = lines-short n t before after r l
+
 -- the length in use is within the buffer
-pub answers-within : (input before after : List ℕ) (used : ℕ) → Answers input before after (Length used)
+pub short-within : (before after : List ℕ) (used : ℕ) → Short before after (Length used)
     → used ≤ length before
-answers-within input before after used h =
-    let t = answer-text input before after (Length used) h in
+short-within before after used t =
     let lacks = ltb (length before) (length (t .text)) in
     let parts = answered-parts (pick lacks 5 0) 0 (length (t .text)) used (t .written .told) in
     let room = ltb-false (length before) (length (t .text)) (pick-zero lacks 4 0 (parts .0) .0) in
     omega (arith, parts .1)
 
+pub answers-within : (input before after : List ℕ) (used : ℕ) → Answers input before after (Length used)
+    → used ≤ length before
+answers-within input before after used h =
+    short-within before after used (answers-short input before after (Length used) h)
+
 -- every line has room in so many bytes
+pub short-fits : (before after : List ℕ) (r : Written) → longest ≤ length before → Short before after r
+    → writtenOf r .number ≡ 0
+short-fits before after r room t =
+    written-number _ (t .text) before after r (t .written)
+    ∙ rw (le-ltb (length before) (length (t .text)) (omega (arith, t .short)))
+
 pub line-fits : (input before after : List ℕ) (r : Written) → longest ≤ length before → Answers input before after r
     → writtenOf r .number ≡ 0
 line-fits input before after r room h =
-    let t = answer-text input before after r h in
-    written-number _ (t .text) before after r (t .written)
-    ∙ rw (le-ltb (length before) (length (t .text)) (omega (arith, t .short)))
+    short-fits before after r room (answers-short input before after r h)

@@ -12,6 +12,7 @@ use Rattle.block.specs.declared.Written.the-variants.{Length}
 use Rattle.block.specs.declared.Kind.{Kind}
 use Rattle.block.specs.Block.{Block}
 use Rattle.block.specs.Kind.{isShared, digitOf, typeOf}
+use Rattle.block.specs.Answer.{writtenOf}
 use Rattle.block.proofs.AnswerLaws.{answered-parts, writes-bytes}
 use Rattle.codec.specs.Ten.{packOf, unpackOf}
 use Rattle.codec.specs.Check.{checkRefusal}
@@ -19,9 +20,11 @@ use Rattle.codec.proofs.CheckLaws.{none-of-accepted}
 use Rattle.round.proofs.PackedLaws.{packed-ten, packed-accepted}
 use Rattle.matcher.specs.Match.{matchRefusal, Matched, refused, unmatched, matched}
 use Rattle.matcher.proofs.UniqueMatch.{acceptable}
-use Rattle.line.specs.Text.{lineFeed, blank, capitalR, digitCode}
+use Rattle.line.specs.declared.Said.{Said}
+use Rattle.words.specs.Text.{lineFeed, blank}
+use Rattle.line.specs.Text.{capitalR, digitCode}
 use Rattle.line.specs.Line.{typedLine, blockLine, refusalLine, answerLine, WritesText}
-use Rattle.line.specs.Line.{tenZeros, Lines, Answers}
+use Rattle.line.specs.Line.{tenZeros, Says, Lines, Answers}
 use Rattle.line.proofs.TextLaws.{decimal-one, decimal-two}
 
 -- a text that fits, copied
@@ -66,11 +69,17 @@ ten-checked n t ten used (matched none b p w) =
     let same : ten ≡ packOf b = w .kept ∙ rw (packed-ten n b fine, append-nil) in
     rw same (none-of-accepted n (packOf b) (packed-accepted n b fine))
 
-pub lines-told : (n : ℕ) (t ten before after : List ℕ) (answer case r : Written) → answer ≡ case
-    → Matched n t tenZeros ten answer → WritesText (answerLine ten case) before after r
-    → Lines n t before after r
-lines-told n t ten before after answer case r e m w =
-    record { answer = answer; ten = ten; matched = m; written = rw e w }
+pub says-told : (n : ℕ) (t ten before after : List ℕ) (answer case : Written) (r : Said) → answer ≡ case
+    → Matched n t tenZeros ten answer → r .number ≡ writtenOf case .number
+    → WritesText (answerLine ten case) before after (r .line) → Says n t before after r
+says-told n t ten before after answer case r e m k w =
+    record { answer = answer; ten = ten; matched = m; number = rw e k; written = rw e w }
+
+-- what is said of a table has its line
+pub says-lines : (n : ℕ) (t before after : List ℕ) (r : Said) → Says n t before after r
+    → Lines n t before after (r .line)
+says-lines n t before after r s =
+    record { answer = s .answer; ten = s .ten; matched = s .matched; written = s .written }
 
 -- the two cases of the input
 pub answers-none : (input before after : List ℕ) (r : Written) → length input ≡ 0

@@ -1,29 +1,23 @@
 -- What comes after enough bytes of the input changes nothing. Assumes nothing.
 use mathlib.Core.Path.{_≡_, sym, _∙_}
 use mathlib.Core.List.{List, [], _∷_}
-use Prim.Native.Nat.{ℕ, _-_, _≤_}
+use Prim.Native.Nat.{ℕ, _≤_}
 use native.Mathlib.Omega.{arith}
-use lib.Dec.{ltb, leb}
+use lib.Dec.{ltb}
 use lib.ListN.{length, take}
-use lib.Pow.{pow-mono}
 use lib.Seq.{length-take-le}
 use borrow.Author.Tests.{ltb-true, ltb-false}
 use Rattle.bits.proofs.SearchLaws.{byBool}
 use Rattle.block.specs.declared.Written.{Written}
-use Rattle.block.specs.Table.{tableBytes}
+use Rattle.block.proofs.TableLaws.{bytes-most}
 use Rattle.matcher.specs.Match.{matchRefusal, Matched, refused, unmatched, matched}
 use Rattle.matcher.proofs.HeadLaws.{well-formed, refuses-1, refuses-2}
 use Rattle.line.specs.Line.{Lines, Answers, enough}
 
-table-most : (n : ℕ) → n ≤ 9 → tableBytes n ≤ 64
-table-most n within =
-    let few : n - 3 ≤ 6 = omega arith in
-    byBool (leb n 3) (λ e. rw e (omega arith)) (λ e. rw e (pow-mono few))
-
 never-whole : (n : ℕ) (t : List ℕ) (room : ℕ) → 65 ≤ length t → matchRefusal n t room ≡ 0 → ⊥
 never-whole n t room long none =
     let table = well-formed n t room none in
-    let most = table-most n (table .within) in
+    let most = bytes-most n (table .within) in
     omega (arith, table .bytes)
 
 -- two tables that are too long are refused alike, whatever their bytes are
@@ -34,7 +28,7 @@ module _ (n : ℕ) (s t : List ℕ) (long : 65 ≤ length s) (long' : 65 ≤ len
       (λ e. let above = ltb-true 9 n e in sym (refuses-1 n s room above) ∙ refuses-1 n t room above)
       (λ e.
       let within = ltb-false 9 n e in
-      let most = table-most n within in
+      let most = bytes-most n within in
       sym (refuses-2 n s room within (λ z. omega arith)) ∙ refuses-2 n t room within (λ z. omega arith))
 
   matched-alike : (before after : List ℕ) (r : Written) → Matched n s before after r

@@ -1,5 +1,6 @@
 -- The line that the program prints (document 01, "The program"). Assumes nothing.
 use Prim.Native.Nat.{ℕ, _+_}
+use mathlib.Core.Path.{_≡_}
 use mathlib.Core.List.{List, [], _∷_, _++_}
 use lib.Dec.{ltb}
 use lib.ListN.{length, replicate}
@@ -9,10 +10,12 @@ use Rattle.block.specs.declared.Kind.{Kind}
 use Rattle.block.specs.Table.{mostInputs, tableBytes}
 use Rattle.block.specs.Kind.{letterCode, typeOf}
 use Rattle.block.specs.Refusal.{_when_, firstOf, numberOf}
-use Rattle.block.specs.Answer.{Writes}
+use Rattle.block.specs.Answer.{writtenOf, Writes}
 use Rattle.codec.specs.Ten.{blockBytes, unpackOf}
 use Rattle.matcher.specs.Match.{Matched}
-use Rattle.line.specs.Text.{lineFeed, blank, hyphen, capitalR, hexadecimal, decimal}
+use Rattle.line.specs.declared.Said.{Said}
+use Rattle.words.specs.Text.{lineFeed, blank}
+use Rattle.line.specs.Text.{hyphen, capitalR, hexadecimal, decimal}
 
 -- a type, as A-0
 abbrev pub typeText : Kind → List ℕ
@@ -44,8 +47,16 @@ WritesText text before after r =
 abbrev pub tenZeros : List ℕ
 tenZeros = replicate blockBytes 0
 
--- What the line of a table of n inputs promises: the text of the answer that matching gives with ten
--- bytes of room.
+-- What the line of a table of n inputs promises, with the number told beside it: the text of the
+-- answer that matching gives with ten bytes of room, and that answer's number.
+pub record Says (n : ℕ) (t before after : List ℕ) (r : Said) : Type 0 where
+  pub answer : Written
+  pub ten : List ℕ
+  pub matched : Matched n t tenZeros ten answer
+  pub number : r .number ≡ writtenOf answer .number
+  pub written : WritesText (answerLine ten answer) before after (r .line)
+
+-- What the line alone promises.
 pub record Lines (n : ℕ) (t before after : List ℕ) (r : Written) : Type 0 where
   pub answer : Written
   pub ten : List ℕ

@@ -4,12 +4,6 @@ use mathlib.Core.List.{List, [], _∷_}
 use lib.Dec.{ltb}
 use Rattle.bits.specs.Tests.{pick}
 
-abbrev pub lineFeed : ℕ
-lineFeed = 10
-
-abbrev pub blank : ℕ
-blank = 32
-
 abbrev pub hyphen : ℕ
 hyphen = 45
 

@@ -7,7 +7,8 @@ ghost use Rattle.block.specs.Refusal.{numberOf};
 ghost use Rattle.codec.specs.Ten.{blockBytes};
 ghost use Rattle.codec.specs.Check.{checkRefusal};
 ghost use Rattle.line.specs.Text.{digitCode};
-ghost use Rattle.line.specs.Line.{typedLine, blockLine, refusalLine, WritesText, Lines, Answers};
+ghost use Rattle.line.specs.Line.{typedLine, blockLine, refusalLine, WritesText, Says, Lines};
+ghost use Rattle.line.specs.Line.{Answers};
 use block::Kind;
 use block::Refusal;
 use block::Written;
@@ -18,6 +19,12 @@ pub const ENOUGH: usize = 66;
 
 // The longest line.
 pub const LONGEST: usize = 25;
+
+// A refusal's number, or 0, and what the writer of the line answers.
+pub struct Said {
+    pub number: u8,
+    pub line: Written,
+}
 
 // The digit of a number below 16.
 fn digit(x: u8) -> u8
@@ -43,7 +50,8 @@ fn put(text: &[u8], out: &mut [u8]) -> Written
     Written::Length(bytes::copy(text, out))
 }
 
-fn of_refusal(k: Refusal, out: &mut [u8]) -> Written
+// The line of a refusal.
+pub fn of_refusal(k: Refusal, out: &mut [u8]) -> Written
     ensures { λ r. ⌜ WritesText (refusalLine (numberOf k)) (now (out .entry)) (now (out .exit)) r ⌝ }
 {
     let number = block::number(k);
@@ -93,16 +101,30 @@ fn of_block(n: u8, ten: &[u8; 10], out: &mut [u8]) -> Written
 }
 
 // The line of a table of n inputs: the type and the ten bytes of the first tidy block that computes it,
-// or the refusal.
-pub fn of_table(n: u8, t: &[u8], out: &mut [u8]) -> Written
-    ensures { λ r. ⌜ Lines n (now (t .entry)) (now (out .entry)) (now (out .exit)) r ⌝ }
+// or the refusal, with its number.
+pub fn say(n: u8, t: &[u8], out: &mut [u8]) -> Said
+    ensures { λ r. ⌜ Says n (now (t .entry)) (now (out .entry)) (now (out .exit)) r ⌝ }
 {
     let mut ten = [0u8; 10];
     let answer = matcher::first_match(n, t, &mut ten);
     match answer {
-        Written::Length(_) => of_block(n, &ten, out),
-        Written::Refused(k) => of_refusal(k, out),
+        Written::Length(_) => Said {
+            number: 0,
+            line: of_block(n, &ten, out),
+        },
+        Written::Refused(k) => Said {
+            number: block::number(k),
+            line: of_refusal(k, out),
+        },
     }
+}
+
+// The same line alone.
+pub fn of_table(n: u8, t: &[u8], out: &mut [u8]) -> Written
+    ensures { λ r. ⌜ Lines n (now (t .entry)) (now (out .entry)) (now (out .exit)) r ⌝ }
+{
+    let said = say(n, t, out);
+    said.line
 }
 
 // The line of the whole input: one byte n, then the table and nothing after it.

@@ -1,26 +1,42 @@
-//! Compares all nine calls with the second versions for some time, on inputs that follow from a
-//! seed: functions of 0 to 9 inputs, blocks and parts, and sheets, right and damaged.
+//! Compares all ten calls with the second versions for some time, on inputs that follow from a
+//! seed: functions of 0 to 9 inputs, covers, blocks and parts, and sheets, right and damaged; and
+//! covers that ABC writes, where it is installed.
 //!
-//! usage: soak SECONDS [SEED]
+//! usage: soak VECTORS FOLDER SECONDS [SEED]
 //!
-//! Without SEED the clock gives one. Each round has a seed of its own, one above that of the round
-//! before. It stops with status 1 at the first difference, and tells the round's seed; otherwise
-//! its last line is `soak: N answers, 0 differ`.
+//! VECTORS is the folder of all vectors, FOLDER one for ABC's files. Without SEED the clock gives
+//! one. Each round has a seed of its own, one above that of the round before. It stops with status
+//! 1 at the first difference, and tells the round's seed; otherwise its last line is `soak: N
+//! answers, 0 differ`.
 
+use edges::covers::abc::Abc;
+use edges::covers::vectors::Stock;
 use edges::random::Random;
 use edges::sheets::second::MOST;
+use edges::tally::Tally;
 use edges::words::Words;
-use edges::{blocks, matching, sheets};
+use edges::{blocks, covers, matching, sheets};
 use std::time::{Duration, Instant};
 
-/// How many blocks, parts, damaged tables and small sheets are asked about in a round.
+/// How many blocks, parts, damaged tables, covers and small sheets are asked about in a round.
 const OF_EACH: usize = 2000;
 
-/// The judges of the three comparisons.
+/// How many networks ABC rewrites in a round.
+const NETWORKS: usize = 10;
+
+/// The judges of the four comparisons.
 struct Judges {
     matching: matching::judge::Judge,
     blocks: blocks::judge::Judge,
     sheets: sheets::judge::Judge,
+    covers: covers::judge::Judge,
+}
+
+/// What covers come from: the vectors, and ABC if it is installed, with how many it wrote.
+struct Sources {
+    stock: Stock,
+    abc: Option<Abc>,
+    written: usize,
 }
 
 impl Judges {
@@ -30,21 +46,40 @@ impl Judges {
             matching: matching::judge::Judge::new(String::new()),
             blocks: blocks::judge::Judge::new(String::new()),
             sheets: sheets::judge::Judge::new(String::new()),
+            covers: covers::judge::Judge::new(String::new()),
         }
     }
 
-    /// How many answers were compared.
-    fn answers(&self) -> usize {
-        let all = [&self.matching.tally, &self.blocks.tally, &self.sheets.tally];
-        all.map(|tally| tally.answers()).iter().sum()
+    /// The accounts of all.
+    fn tallies(&mut self) -> [&mut Tally; 4] {
+        [
+            &mut self.matching.tally,
+            &mut self.blocks.tally,
+            &mut self.sheets.tally,
+            &mut self.covers.tally,
+        ]
     }
 
-    /// One round: blocks, parts, tables and sheets, and a function of each kind and n.
-    fn round(&mut self, seed: u64) {
-        let repeat = format!("sh tests/soak 1 {seed}");
-        self.matching.tally.repeat = repeat.clone();
-        self.blocks.tally.repeat = repeat.clone();
-        self.sheets.tally.repeat = repeat;
+    /// How many answers were compared.
+    fn answers(&mut self) -> usize {
+        self.tallies().map(|tally| tally.answers()).iter().sum()
+    }
+
+    /// Covers: damaged ones, and those that ABC writes.
+    fn covers(&mut self, sources: &mut Sources, random: &mut Random) {
+        for _ in 0..OF_EACH {
+            covers::groups::one_damaged(&mut self.covers, &sources.stock, random);
+        }
+        for abc in sources.abc.iter().flat_map(|abc| [abc; NETWORKS]) {
+            sources.written += covers::network::one_rewritten(&mut self.covers, abc, random);
+        }
+    }
+
+    /// One round: blocks, parts, tables, sheets and covers, and a function of each kind and n.
+    fn round(&mut self, sources: &mut Sources, seed: u64) {
+        for tally in self.tallies() {
+            tally.repeat = format!("sh tests/soak 1 {seed}");
+        }
         let mut random = Random(seed);
         for _ in 0..OF_EACH {
             blocks::groups::damaged_block(&mut self.blocks, &mut random);
@@ -52,6 +87,7 @@ impl Judges {
             matching::groups::damaged_table(&mut self.matching, &mut random);
             sheets::groups::one_damaged(&mut self.sheets, 5, &mut random);
         }
+        self.covers(sources, &mut random);
         sheets::groups::one_right(&mut self.sheets, &mut random);
         sheets::groups::one_damaged(&mut self.sheets, MOST, &mut random);
         sheets::groups::of_matches(&mut self.sheets, &mut random);
@@ -63,15 +99,21 @@ impl Judges {
 
 /// Compares round by round until the time is over.
 fn main() {
-    let mut words = Words::given("soak SECONDS [SEED]");
+    let mut words = Words::given("soak VECTORS FOLDER SECONDS [SEED]");
+    let (vectors, folder): (String, String) = (words.next(), words.next());
     let seconds = words.next();
     let seed = words.seed();
+    let mut sources = Sources {
+        stock: Stock::below(&vectors),
+        abc: Abc::found(&folder),
+        written: 0,
+    };
     let end = Instant::now() + Duration::from_secs(seconds);
     let (mut judges, mut round) = (Judges::new(), 0);
     while round == 0 || Instant::now() < end {
-        judges.round(seed.wrapping_add(round));
+        judges.round(&mut sources, seed.wrapping_add(round));
         round += 1;
     }
-    println!("{round} rounds");
+    println!("{round} rounds, {} covers written by ABC", sources.written);
     println!("soak: {} answers, 0 differ", judges.answers());
 }

@@ -96,7 +96,7 @@ pub fn all(judge: &mut Judge, folder: &str, seed: u64) {
     judge.tally.group_done("document 01");
     refusals(judge);
     judge.tally.group_done("refusals before the search");
-    for file in vectors::files(folder) {
+    for file in vectors::files(folder, ".txt") {
         judge.functions(&vector_file(&format!("{folder}/{file}")));
         judge.tally.group_done(&file);
     }

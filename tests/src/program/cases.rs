@@ -2,6 +2,7 @@
 
 use crate::document;
 use crate::hexadecimal::hexadecimal;
+use crate::program::judge::Case;
 use crate::program::run::{Input, Left, Output};
 use crate::table::{refusal, table_length};
 use crate::vectors::Line;
@@ -15,13 +16,6 @@ const NOT_WRITTEN: &str = "drawmitten: standard output could not be written\n";
 const SHORT: Duration = Duration::from_millis(1);
 const LONG: Duration = Duration::from_millis(60);
 
-/// A run with what it must leave.
-pub struct Case {
-    pub input: Input,
-    pub output: Output,
-    pub wanted: Left,
-}
-
 /// A run that ends with status 0 and leaves these texts.
 fn case(input: Input, output: Output, printed: &str, errors: &str) -> Case {
     let wanted = Left {
@@ -30,6 +24,7 @@ fn case(input: Input, output: Output, printed: &str, errors: &str) -> Case {
         end: 0,
     };
     Case {
+        words: vec![],
         input,
         output,
         wanted,

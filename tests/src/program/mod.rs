@@ -1,4 +1,6 @@
-//! The test of the program: inputs with what must be printed for them, and runs.
+//! The test of the programs: inputs with what must be printed for them, and runs.
 
 pub mod cases;
+pub mod cover;
+pub mod judge;
 pub mod run;

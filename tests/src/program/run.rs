@@ -41,7 +41,7 @@ pub struct Left {
     pub end: i32,
 }
 
-/// The command: a shell closes what is to be closed.
+/// The command, to which arguments can be added: a shell closes what is to be closed.
 fn command(program: &str, input: &Input, output: &Output) -> Command {
     let close = match (input, output) {
         (Input::Closed, Output::Closed) => "<&- >&-",
@@ -50,7 +50,7 @@ fn command(program: &str, input: &Input, output: &Output) -> Command {
         _ => return Command::new(program),
     };
     let mut command = Command::new("sh");
-    command.args(["-c", &format!("exec \"$0\" {close}"), program]);
+    command.args(["-c", &format!("exec \"$0\" \"$@\" {close}"), program]);
     command
 }
 
@@ -118,9 +118,15 @@ fn whole(output: Option<impl Read>) -> std::io::Result<Vec<u8>> {
     Ok(bytes)
 }
 
-/// Runs the program.
-pub fn run(program: &str, input: &Input, output: &Output) -> std::io::Result<Left> {
+/// Runs the program with these arguments.
+pub fn run(
+    program: &str,
+    words: &[String],
+    input: &Input,
+    output: &Output,
+) -> std::io::Result<Left> {
     let mut child = command(program, input, output)
+        .args(words)
         .stdin(standard_input(input)?)
         .stdout(standard_output(output)?)
         .stderr(Stdio::piped())

@@ -1,28 +1,11 @@
--- `line::of_table` meets its contract: the ten bytes of a match pass the check. Assumes nothing.
+-- `line::of_table` meets its contract. Assumes nothing.
 use borrow.Author.Needs.{needs}
-use Rattle.line.proofs.PartLaws.{ten-checked, lines-told}
+use Rattle.line.proofs.PartLaws.{says-lines}
 use Rattle.line.proofs.of_table.Statement.{statement}
 use Rattle.line.proofs.of_table.Tie as tie
 
-of-block-requires : tie.Need-of-block-requires
-of-block-requires c κs =
-    let found = c .before .before in
-    ten-checked _ _ _ _ (rw (found .enum-told .given .1) at (found .before .before .before .first-match .ensures))
-
 returns : tie.Need-returns
-returns c =
-    let found = c .before .before .before .before .before in
-    lines-told _ _ _ _ _ _ _ _ (found .enum-told .given .1) (found .before .before .before .first-match .ensures)
-    (c .before .before .of-block .ensures)
-
-returns-2 : tie.Need-returns-2
-returns-2 c =
-    let found = c .before .before .before .before .before in
-    lines-told _ _ _ _ _ _ _ _ (found .answer .given .1) (found .before .before .before .first-match .ensures)
-    (c .before .before .of-refusal .ensures)
+returns c = says-lines _ _ _ _ _ (c .before .before .say .ensures)
 
 pub of-table-spec : {M : Type 1} → statement M
-of-table-spec =
-    tie.close
-    (tie.spec (search needs) (search needs) (search needs) of-block-requires (search needs)
-    (search needs) (search needs) returns (search needs) returns-2)
+of-table-spec = tie.close (tie.spec (search needs) (search needs) returns)

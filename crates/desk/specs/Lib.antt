@@ -1,0 +1,2 @@
+-- The text of a cover and its line. Assumes nothing.
+pub mod Desk

@@ -1,0 +1,5 @@
+pub mod PastLaws
+pub mod TextLaws
+pub mod LeadingLaws
+pub mod NextLaws
+pub mod LineLaws
