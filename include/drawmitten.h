@@ -1,6 +1,6 @@
 /*
- * Drawmitten for C and Rust: truth tables, covers, blocks and patch sheets. Link target/staticlib/libdrawmitten_c.a,
- * which `rt staticlib drawmitten_c` proves and writes, for x86-64 Linux.
+ * Drawmitten for C and Rust: truth tables, builds, covers, blocks and patch sheets. Link
+ * target/staticlib/libdrawmitten_c.a, which `rt staticlib drawmitten_c` proves and writes, for x86-64 Linux.
  *
  * THE ANSWER. Every call answers one number of 64 bits. Its low 8 bits are 0 for success, or the number of the refusal
  * (below). The bits above, `answer >> 8`, are the other part of the answer: what it is after success stands at each
@@ -33,6 +33,10 @@
  * and G the first pin weighs 8, then 4, 2, 1; in H the output of F weighs 4, that of G 2, the direct pin 1. An open pin
  * reads 0. A block is TIDY if in F, and likewise in G, the carried variables strictly ascend from the first pin with the
  * open pins last, and every row that needs a 1 on an open pin is 0, rows of H with an open direct pin included.
+ * A BUILD is requests back to back and nothing else: each is one byte n, 0 to 9, and then as many bytes as a table of n
+ * inputs has, and begins wherever the one before it ended. A build of none has length 0. The SLOT of a request is 11
+ * bytes: 0 and the ten bytes of the block that matching gives for it, or the number with which matching refuses it, 3
+ * or 4, and ten zeros.
  * A RECORD is 14 bytes, most significant bit first: spacecraft number 16 bits, block number 12, n 4, the block.
  * A SHEET is up to 4,681 records (65,534 bytes) and nothing else, strictly ascending by spacecraft number, then block
  * number. An empty one has length 0.
@@ -43,8 +47,8 @@
  *       length exceeds its buffer
  *    3  a table's padding is not zero
  *    4  no match: no block computes the table
- *    5  fewer than 10 bytes of room for a block; fewer than the table has, for a table; fewer than 14 for a record, or
- *       4,681 records already
+ *    5  fewer than 10 bytes of room for a block; fewer than the table has, for a table; fewer than 11 for each request,
+ *       for a build; fewer than 14 for a record, or 4,681 records already
  *    6  a pin field is neither below n nor 15 (16 and more included)
  *    7  F or G out of order, repeated, or open before carried
  *    8  a row that needs a 1 on an open pin is set
@@ -53,6 +57,7 @@
  *   11  a record's number pair is not above the one before it
  *   12  no record has the number pair, or the place, asked for
  *   13  row number 2^n or more
+ *   14  a build has a request with n above 9 (not 1), or whose table runs past the end of the build
  *   15  a text is no cover; a backslash outside a comment makes it none, and so do `.model`, `.end` and a second `.names`
  *   16  a cover uses a name twice, the output's included; names are compared whole, and `EN` and `En` are two
  *   17  a cover has lines with output 1 and lines with output 0
@@ -75,6 +80,11 @@ uint64_t drawmitten_cover(const uint8_t *text, size_t len, uint8_t *out, size_t 
 /* Writes at the start of `out` the ten bytes of the first tidy block, in byte order, that computes the table.
  * After success: the length in use, 10. Refusals: 1, 2, 3, 5, 4. */
 uint64_t drawmitten_match(uint8_t n, const uint8_t *table, size_t len, uint8_t *out, size_t room);
+
+/* Writes at the start of `out` the slots of a build's requests, in their order. A table that matching refuses, with 3 or
+ * 4, shows in its own slot and changes no other. After success: the length in use, 11 for each request, its low 56 bits.
+ * 11 * (`len` / 2) bytes of room are enough for every build. Refusals, of the whole build: 14, 5. */
+uint64_t drawmitten_batch(const uint8_t *requests, size_t len, uint8_t *out, size_t room);
 
 /* Whether the bytes are a tidy block of n inputs. After success: 0. Refusals: 1, 2, 6, 7, 8, 9. */
 uint64_t drawmitten_check(uint8_t n, const uint8_t *block, size_t len);

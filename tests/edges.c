@@ -16,17 +16,31 @@
 #include <stdlib.h>
 #include <string.h>
 
-enum { BLOCK = 10, RECORD = 14, MOST_INPUTS = 9, LONGEST_TABLE = 64, OPEN = 15, LAST_REFUSAL = 17 };
+enum { BLOCK = 10, SLOT = 11, RECORD = 14, MOST_INPUTS = 9, LONGEST_TABLE = 64, OPEN = 15, LAST_REFUSAL = 17 };
 
 /* How many calls there must be of each, and in all. */
 enum { LEAST_OF_EACH = 500, LEAST = 10000 };
 
-/* Rounds of blocks, of sheets and of covers, and records of a sheet. */
+/* Rounds of blocks, of sheets, of covers and of builds, records of a sheet, and requests of a build. */
 enum { BLOCK_ROUNDS = 3000, SHEET_ROUNDS = 150, SHEET_RECORDS = 12, COVER_ROUNDS = 1500 };
+enum { BUILD_ROUNDS = 400, BUILD_REQUESTS = 10 };
 
-enum call { COVER, MATCH, CHECK, EVALUATE, TYPE, PACK, SHEET_CHECK, SHEET_READ, SHEET_FIND, SHEET_APPEND, CALLS };
+enum call {
+    COVER,
+    MATCH,
+    BATCH,
+    CHECK,
+    EVALUATE,
+    TYPE,
+    PACK,
+    SHEET_CHECK,
+    SHEET_READ,
+    SHEET_FIND,
+    SHEET_APPEND,
+    CALLS
+};
 
-static const char *const names[CALLS] = {"cover", "match",       "check",      "evaluate",   "type",
+static const char *const names[CALLS] = {"cover", "match",       "batch",      "check",      "evaluate",    "type",
                                          "pack",  "sheet_check", "sheet_read", "sheet_find", "sheet_append"};
 static unsigned long made[CALLS];
 static uint64_t seed, state;
@@ -180,6 +194,15 @@ static uint64_t match(uint8_t n, const uint8_t *table, size_t length, uint8_t *t
     uint64_t answer = drawmitten_match(n, in.bytes, length, out.bytes, room);
     read_only(MATCH, answer, &in);
     return plain(MATCH, written(MATCH, answer, &out, 0, BLOCK, ten));
+}
+
+/* A build of this many requests, if it is right. */
+static uint64_t batch(const uint8_t *build, size_t length, size_t requests, uint8_t *slots, size_t room)
+{
+    struct lent in = lend(build, length), out = lend_room(room);
+    uint64_t answer = drawmitten_batch(in.bytes, length, out.bytes, room);
+    read_only(BATCH, answer, &in);
+    return plain(BATCH, written(BATCH, answer, &out, 0, SLOT * requests, slots));
 }
 
 static uint64_t check(uint8_t n, const uint8_t *block, size_t length)
@@ -420,14 +443,21 @@ static void write_line(char *line, uint8_t n, uint64_t answer, const uint8_t *te
         line += sprintf(line, "%02X", ten[k]);
 }
 
-static void try_example(const struct example *example)
+/* The table of an example. */
+static void example_table(const struct example *example, uint8_t *table)
 {
-    uint8_t table[LONGEST_TABLE] = {0}, ten[BLOCK];
-    char line[32];
+    memset(table, 0, LONGEST_TABLE);
     memcpy(table, example->bytes, sizeof example->bytes);
     for (uint32_t row = 0; example->rule && row < 1u << example->n; row++)
         if (example->rule(row, example->n))
             set_row(table, row);
+}
+
+static void try_example(const struct example *example)
+{
+    uint8_t table[LONGEST_TABLE], ten[BLOCK];
+    char line[32];
+    example_table(example, table);
     uint64_t answer = match(example->n, table, example->length, ten, BLOCK);
     write_line(line, example->n, answer, ten);
     printf("%s %s\n", example->mark, line);
@@ -793,6 +823,110 @@ static void try_cover(void)
     try_rooms(&text);
 }
 
+/* ---- builds */
+
+/* A build, with room for a request more, and its slots. */
+struct build {
+    size_t length, requests;
+    uint8_t bytes[(BUILD_REQUESTS + 1) * (1 + LONGEST_TABLE)], slots[BUILD_REQUESTS * SLOT];
+};
+
+/* Adds a request, and its slot by a single call. */
+static void add_request(struct build *build, uint8_t n, const uint8_t *table)
+{
+    uint8_t *request = build->bytes + build->length, *slot = build->slots + SLOT * build->requests;
+    request[0] = n;
+    memcpy(request + 1, table, table_length(n));
+    memset(slot, 0, SLOT);
+    slot[0] = (uint8_t)number(match(n, table, table_length(n), slot + 1, BLOCK));
+    build->length += 1 + table_length(n);
+    build->requests++;
+}
+
+/* The first bytes of a build that end with a request: with room its slots are those of single calls, with less it is
+ * refused. */
+static void try_right(const struct build *build, size_t length, size_t requests)
+{
+    uint8_t slots[sizeof build->slots];
+    size_t needed = SLOT * requests, room = needed + (one_in(2) ? below(20) : 0);
+    if (batch(build->bytes, length, requests, slots, room) != (uint64_t)needed << 8)
+        differ("a build of %zu requests is refused, or has another length", requests);
+    if (memcmp(slots, build->slots, needed) != 0)
+        differ("a slot of a build of %zu requests is not that of a single call", requests);
+    if (requests > 0 && batch(build->bytes, length, requests, slots, needed - 1) != 5)
+        differ("a build of %zu requests is taken without room", requests);
+    if (requests > 0 && batch(build->bytes, length, requests, slots, below((uint32_t)needed)) != 5)
+        differ("a build of %zu requests is taken with little room", requests);
+}
+
+/* Bytes that are no build are refused, whatever the room. */
+static void try_wrong(const struct build *build, size_t length)
+{
+    uint8_t slots[sizeof build->slots];
+    if (batch(build->bytes, length, build->requests, slots, one_in(2) ? below(sizeof slots) : 0) != 14)
+        differ("%zu bytes that are no build are not refused with 14", length);
+}
+
+/* Adds an example, which has its line; the build is right with it, and wrong where it is cut in it. */
+static void add_example(struct build *build, const struct example *example)
+{
+    uint8_t table[LONGEST_TABLE], *slot = build->slots + SLOT * build->requests;
+    char line[32];
+    example_table(example, table);
+    add_request(build, example->n, table);
+    write_line(line, example->n, slot[0], slot + 1);
+    if (strcmp(line, example->line) != 0)
+        differ("%s in a build is %s", example->mark, example->line);
+    try_right(build, build->length, build->requests);
+    for (size_t cut = 1; cut <= example->length; cut++)
+        try_wrong(build, build->length - cut);
+}
+
+/* A build with an example after it that is no request. */
+static void try_after(struct build *build, const struct example *example)
+{
+    build->bytes[build->length] = example->n;
+    try_wrong(build, build->length + 1 + example->length);
+}
+
+/* No request, and P1 to P9 and Q1 in one build, cut at every length; and with Q2 or Q3 after them. */
+static void try_document_build(void)
+{
+    struct build build = {0};
+    try_right(&build, 0, 0);
+    for (size_t k = 0; k < BUILD_REQUESTS; k++)
+        add_example(&build, &examples[k]);
+    try_after(&build, &examples[BUILD_REQUESTS]);
+    try_after(&build, &examples[BUILD_REQUESTS + 1]);
+}
+
+/* A request by chance, mostly of few inputs and with right padding. */
+static void add_some_request(struct build *build)
+{
+    uint8_t n = (uint8_t)(one_in(60) ? below(MOST_INPUTS + 1) : below(6)), table[LONGEST_TABLE];
+    for (size_t k = 0; k < sizeof table; k++)
+        table[k] = (uint8_t)below(256);
+    if (n < 3 && !one_in(3))
+        table[0] &= (uint8_t)(0xFF00 >> (1 << n));
+    add_request(build, n, table);
+}
+
+/* A build by chance; then an n above 9 after it, a table after it that runs past the end, and an n above 9 in it. */
+static void try_build(void)
+{
+    struct build build = {0};
+    uint8_t n = (uint8_t)below(MOST_INPUTS + 1);
+    for (uint32_t left = below(BUILD_REQUESTS / 2); left > 0; left--)
+        add_some_request(&build);
+    try_right(&build, build.length, build.requests);
+    build.bytes[build.length] = n;
+    try_wrong(&build, build.length + 1 + below((uint32_t)table_length(n)));
+    build.bytes[build.length] = (uint8_t)(10 + below(246));
+    try_wrong(&build, build.length + 1 + below(LONGEST_TABLE + 1));
+    build.bytes[0] = (uint8_t)(10 + below(246));
+    try_wrong(&build, build.length + 1);
+}
+
 /* ---- the whole */
 
 /* Prints how often each was called; fails if that is too little. */
@@ -834,6 +968,9 @@ int main(int count, char **words)
     try_known_covers();
     for (int round = 0; round < COVER_ROUNDS; round++)
         try_cover();
+    try_document_build();
+    for (int round = 0; round < BUILD_ROUNDS; round++)
+        try_build();
     account();
     return 0;
 }

@@ -139,9 +139,9 @@ mod tests {
     }
 
     #[test]
-    fn takes_the_header_with_its_ten_calls() {
+    fn takes_the_header_with_its_eleven_calls() {
         let all = declarations(include_str!("../../include/drawmitten.h")).unwrap();
-        assert_eq!(all.matches("pub fn drawmitten_").count(), 10);
+        assert_eq!(all.matches("pub fn drawmitten_").count(), 11);
     }
 
     #[test]

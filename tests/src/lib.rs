@@ -1,6 +1,7 @@
 //! What the tests at the product's edges share, and the second versions that they hold it to. Of
 //! the product they use nothing but the header, the archive and the program.
 
+pub mod batches;
 pub mod bench;
 pub mod blemish;
 pub mod block;

@@ -47,6 +47,13 @@ pub fn match_table(n: u8, table: &[u8], out: &mut [u8]) -> Answer {
     Answer::of(unsafe { calls::drawmitten_match(n, table.as_ptr(), table.len(), lent, room) })
 }
 
+/// Matches every table of a build.
+pub fn batch(requests: &[u8], out: &mut [u8]) -> Answer {
+    let (lent, length) = (requests.as_ptr(), requests.len());
+    let (out, room) = (out.as_mut_ptr(), out.len());
+    Answer::of(unsafe { calls::drawmitten_batch(lent, length, out, room) })
+}
+
 /// Where the code of matching begins.
 pub fn match_entry() -> usize {
     calls::drawmitten_match as *const () as usize

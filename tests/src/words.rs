@@ -36,6 +36,14 @@ impl Words {
         }
     }
 
+    /// The words that are left, of which there must be one.
+    pub fn rest(self) -> Vec<String> {
+        if self.left.len() == 0 {
+            self.refuse();
+        }
+        self.left.collect()
+    }
+
     /// The next word as a seed, or one from the clock if there is none; it is printed.
     pub fn seed(&mut self) -> u64 {
         let seed = match self.left.next() {

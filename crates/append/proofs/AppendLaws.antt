@@ -9,6 +9,7 @@ use lib.ListN.{length, take, drop}
 use borrow.Rule.Slice.PartMut.{putMid}
 use borrow.Author.Tests.{ltb-false, leb-false, le-ltb, lt-leb}
 use Rattle.bits.proofs.TestLaws.{either-false}
+use Rattle.bits.proofs.SliceLaws.{tail-back}
 use Rattle.block.specs.declared.Refusal.{Refusal}
 use Rattle.block.specs.Refusal.{_when_}
 use Rattle.block.proofs.RefusalLaws.{pick-zero}
@@ -21,7 +22,6 @@ use Rattle.record.proofs.ToldLaws.{refusal-some, then-zero, then-test, told-uni
 use Rattle.sheet.specs.Sheet.{mostRecords, recordsOf, lastKey}
 use Rattle.sheet.specs.Check.{sheetFault}
 use Rattle.append.specs.Append.{noRoom, newFault, appendFault, appended, Appends}
-use Rattle.append.proofs.RoomLaws.{tail-back}
 use Rattle.append.proofs.DecideLaws.{ownFault}
 
 -- what appending accepts: a used part that is a sheet, a record that may come next, and room for it

@@ -3,6 +3,7 @@ pub mod UniqueLaws
 pub mod TestLaws
 pub mod SearchLaws
 pub mod ListLaws
+pub mod SliceLaws
 pub mod AnyLaws
 pub mod ElementLaws
 pub mod CountLaws

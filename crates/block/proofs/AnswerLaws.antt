@@ -1,6 +1,6 @@
 -- A writer's promise leaves one answer and one buffer. Assumes nothing.
 use mathlib.Core.Path.{_≡_, refl, sym, ap, _∙_}
-use mathlib.Core.List.{List, _++_}
+use mathlib.Core.List.{List, [], _++_}
 use Prim.Native.Nat.{ℕ, zero, suc}
 use native.Mathlib.Omega.{arith}
 use lib.ListN.{length, drop}
@@ -9,6 +9,7 @@ use Rattle.block.specs.declared.Written.{Written}
 use Rattle.block.specs.declared.Written.the-variants.{Length, Refused}
 use Rattle.block.specs.Refusal.{numberOf}
 use Rattle.block.specs.Answer.{Answer, answer, answered, writtenOf, bufferAfter, Writes}
+use Rattle.block.specs.Answer.{Fills, refused, filled}
 use Rattle.block.proofs.RefusalLaws.{at-refusal, number-injective}
 
 -- an answer with a refusal's number has every other part 0
@@ -68,3 +69,40 @@ pub writes-bytes : (refusal : ℕ) (bytes before after : List ℕ) (used : ℕ) 
     → used ≡ length bytes
     → after ≡ bytes ++ drop (length bytes) before → Writes refusal bytes before after (Length used)
 writes-bytes refusal bytes before after used e u w = record { told = rw (← e, u); kept = rw (← e) w }
+
+-- the same where the bytes are themselves promised
+pub fills-refused : (k : Refusal) (refusal : ℕ) (P : List ℕ → Type 0) (buffer : List ℕ)
+    → numberOf k ≡ refusal → Fills refusal P buffer buffer (Refused k)
+fills-refused k refusal P buffer e =
+    refused (λ z. at-refusal (λ m. m ≡ 0 → ⊥) (λ m s. omega arith) k (e ∙ z))
+    (writes-refused k refusal [] buffer e)
+
+pub fills-bytes : (refusal : ℕ) (P : List ℕ → Type 0) (bytes before after : List ℕ) (used : ℕ)
+    → refusal ≡ 0 → P bytes → used ≡ length bytes → after ≡ bytes ++ drop (length bytes) before
+    → Fills refusal P before after (Length used)
+fills-bytes refusal P bytes before after used none p size kept =
+    filled none bytes p (writes-bytes 0 bytes before after used refl size kept)
+
+-- a writer of nothing keeps its buffer
+pub nothing-written : (k : ℕ) (buffer : List ℕ) → buffer ≡ bufferAfter k [] buffer
+nothing-written zero buffer = refl
+nothing-written (suc k) buffer = refl
+
+-- a refusal tells its number, and changes no byte
+pub fills-kept : (refusal : ℕ) (P : List ℕ → Type 0) (before after : List ℕ) (k : Refusal)
+    → Fills refusal P before after (Refused k) → (numberOf k ≡ refusal) × (after ≡ before)
+fills-kept refusal P before after k (refused some w) =
+    (written-number refusal [] before after (Refused k) w, w .kept ∙ sym (nothing-written refusal before))
+fills-kept refusal P before after k (filled none bytes p w) =
+    absurd (never-refused (length bytes) 0 k (sym (w .told)))
+
+-- if one list of bytes is promised, one answer and one buffer are
+pub fills-unique : (refusal : ℕ) (P : List ℕ → Type 0) → ((a b : List ℕ) → P a → P b → a ≡ b)
+    → (before after after' : List ℕ) (r q : Written) → Fills refusal P before after r
+    → Fills refusal P before after' q → (r ≡ q) × (after ≡ after')
+fills-unique refusal P one before after after' r q (refused some w) (refused some' w') =
+    written-unique refusal [] before after after' r q w w'
+fills-unique refusal P one before after after' r q (refused some w) (filled none b p w') = absurd (some none)
+fills-unique refusal P one before after after' r q (filled none a p w) (refused some w') = absurd (some none)
+fills-unique refusal P one before after after' r q (filled none a p w) (filled none' b p' w') =
+    written-unique 0 a before after after' r q w (rw (one a b p p') w')

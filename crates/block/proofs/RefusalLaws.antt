@@ -10,7 +10,7 @@ use Rattle.bits.specs.Tests.{pick}
 use Rattle.bits.proofs.TestLaws.{both-left, both-right}
 use Rattle.block.specs.declared.Refusal.{Refusal}
 use Rattle.block.specs.declared.Refusal.the-variants.{R1, R2, R3, R4, R5, R6, R7, R8, R9, R10}
-use Rattle.block.specs.declared.Refusal.the-variants.{R11, R12, R13, R15, R16, R17}
+use Rattle.block.specs.declared.Refusal.the-variants.{R11, R12, R13, R14, R15, R16, R17}
 use Rattle.block.specs.Block.{Block}
 use Rattle.block.specs.Tidy.{fieldsFit, ordered, rowsQuiet, Tidy}
 use Rattle.block.specs.Refusal.{Case, _when_, firstOf, numberOf, strayField, outOfOrder}
@@ -31,6 +31,7 @@ at-refusal P above R10 = above 9
 at-refusal P above R11 = above 10
 at-refusal P above R12 = above 11
 at-refusal P above R13 = above 12
+at-refusal P above R14 = above 13
 at-refusal P above R15 = above 14
 at-refusal P above R16 = above 15
 at-refusal P above R17 = above 16
@@ -51,8 +52,9 @@ refusalOf k =
     (pick (eqb k 11) R11
     (pick (eqb k 12) R12
     (pick (eqb k 13) R13
+    (pick (eqb k 14) R14
     (pick (eqb k 15) R15
-    (pick (eqb k 16) R16 R17))))))))))))))
+    (pick (eqb k 16) R16 R17)))))))))))))))
 
 refusalOf-number : (r : Refusal) → refusalOf (numberOf r) ≡ r
 refusalOf-number R1 = refl
@@ -68,6 +70,7 @@ refusalOf-number R10 = refl
 refusalOf-number R11 = refl
 refusalOf-number R12 = refl
 refusalOf-number R13 = refl
+refusalOf-number R14 = refl
 refusalOf-number R15 = refl
 refusalOf-number R16 = refl
 refusalOf-number R17 = refl

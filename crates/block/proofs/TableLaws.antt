@@ -18,7 +18,7 @@ use Rattle.bits.proofs.SearchLaws.{byBool}
 use Rattle.bits.proofs.TestLaws.{and-ext}
 use Rattle.bits.proofs.BitLaws.{has-of-0, has-low, same-number}
 use Rattle.bits.proofs.RowLaws.{isRow, ofRows-lt, ofRows-ext, ofRows-isRow, isRow-ofRows, rowOf-ofRows}
-use Rattle.block.specs.Table.{tableRows, tableBytes, tableBit, padding}
+use Rattle.block.specs.Table.{tableRows, tableBytes, tableLength, tableBit, padding}
 use Rattle.block.specs.Table.{tableByte, tableFrom, tableOf}
 use Rattle.block.specs.Refusal.{tooManyInputs, tableRefusal}
 use Rattle.block.proofs.RefusalLaws.{pick-zero}
@@ -45,6 +45,14 @@ row-byte n r l =
     omega arith)
     (λ e. let many = leb-false n 3 e in let all = bytes-many n (omega arith) in omega arith)
 
+-- a table has a first byte
+pub bytes-some : (n : ℕ) → 0 < tableBytes n
+bytes-some n =
+    byBool (leb n 3) (λ e. rw e (omega arith)) (λ e. rw e (pow-pos (n - 3)))
+
+pub length-within : (n : ℕ) → n ≤ 9 → tableLength n ≡ tableBytes n
+length-within n l = rw (le-leb n 9 l)
+
 -- the longest table is that of nine inputs
 pub bytes-most : (n : ℕ) → n ≤ 9 → tableBytes n ≤ 64
 bytes-most n l =
@@ -55,6 +63,10 @@ bytes-most n l =
     let all = bytes-many n (omega arith) in
     let rows = pow-mono l in
     omega arith)
+
+pub length-most : (n : ℕ) → tableLength n ≤ 64
+length-most n =
+    byBool (leb n 9) (λ e. rw e (bytes-most n (leb-true n 9 e))) (λ e. rw e (omega arith))
 
 -- what is past the rows is in the first byte
 past-rows : (n j k : ℕ) → j < tableBytes n → k < 8 → tableRows n ≤ 8 * j + k → j ≡ 0

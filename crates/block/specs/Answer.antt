@@ -1,7 +1,7 @@
 -- Answers as document 01 gives them: a number, 0 for success, and the other parts, all 0 after a
 -- refusal. Assumes nothing.
 use Prim.Native.Nat.{ℕ, zero, suc}
-use mathlib.Core.List.{List, _++_}
+use mathlib.Core.List.{List, [], _++_}
 use mathlib.Core.Path.{_≡_}
 use lib.ListN.{length, drop}
 use Rattle.block.specs.declared.Written.{Written}
@@ -36,3 +36,10 @@ bufferAfter (suc k) bytes buffer = buffer
 pub record Writes (refusal : ℕ) (bytes before after : List ℕ) (r : Written) : Type 0 where
   pub told : writtenOf r ≡ answered refusal 0 (length bytes)
   pub kept : after ≡ bufferAfter refusal bytes before
+
+-- what a writer promises of bytes that are themselves promised: its refusal, and no byte changed; or
+-- such bytes
+pub data Fills (refusal : ℕ) (Promised : List ℕ → Type 0) (before after : List ℕ) (r : Written) : Type 0 where
+  refused : (refusal ≡ 0 → ⊥) → Writes refusal [] before after r → Fills refusal Promised before after r
+  filled : refusal ≡ 0 → (bytes : List ℕ) → Promised bytes → Writes 0 bytes before after r
+      → Fills refusal Promised before after r

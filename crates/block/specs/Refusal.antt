@@ -8,7 +8,7 @@ use lib.ListN.{length}
 use Rattle.bits.specs.Tests.{pick}
 use Rattle.block.specs.declared.Refusal.{Refusal}
 use Rattle.block.specs.declared.Refusal.the-variants.{R1, R2, R3, R4, R5, R6, R7, R8, R9, R10}
-use Rattle.block.specs.declared.Refusal.the-variants.{R11, R12, R13, R15, R16, R17}
+use Rattle.block.specs.declared.Refusal.the-variants.{R11, R12, R13, R14, R15, R16, R17}
 use Rattle.block.specs.Table.{mostInputs, tableBytes, padding}
 use Rattle.block.specs.Block.{Block}
 use Rattle.block.specs.Tidy.{fieldsFit, ordered, rowsQuiet}
@@ -38,6 +38,7 @@ numberOf R10 = 10
 numberOf R11 = 11
 numberOf R12 = 12
 numberOf R13 = 13
+numberOf R14 = 14
 numberOf R15 = 15
 numberOf R16 = 16
 numberOf R17 = 17

@@ -23,6 +23,10 @@ tableRows n = 2 ^ n
 abbrev pub tableBytes : ℕ → ℕ
 tableBytes n = pick (leb n 3) 1 (2 ^ (n - 3))
 
+-- its length, where there is such a table; 0 above nine inputs
+abbrev pub tableLength : ℕ → ℕ
+tableLength n = pick (leb n mostInputs) (tableBytes n) 0
+
 -- the table's bit at row r, row 0 in the most significant bit of the first byte
 unfoldable pub tableBit : (t : List ℕ) (r : ℕ) → ℕ
 tableBit t r = rowOf 8 (getD t (r / 8) 0) (r % 8)

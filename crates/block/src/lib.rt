@@ -2,6 +2,7 @@
 // writer. Their meaning stands in specs/.
 
 ghost use mathlib.Core.Path.{_≡_};
+ghost use Rattle.block.specs.Table.{tableLength};
 ghost use Rattle.block.specs.Refusal.{numberOf};
 
 // The field of an open pin, and the level that an open pin reads.
@@ -58,6 +59,7 @@ pub enum Refusal {
     R11,
     R12,
     R13,
+    R14,
     R15,
     R16,
     R17,
@@ -67,6 +69,16 @@ pub enum Refusal {
 pub enum Written {
     Length(usize),
     Refused(Refusal),
+}
+
+// How many bytes a table of n inputs has; 0 for n above nine, of which there is no table.
+pub fn table_bytes(n: u8) -> usize
+    ensures { λ r. ⌜ r ≡ tableLength n ⌝ }
+{
+    if n <= 3 {
+        return 1;
+    }
+    if n <= MOST_INPUTS { 1 << (n - 3) } else { 0 }
 }
 
 // A refusal's number.
@@ -87,6 +99,7 @@ pub fn number(k: Refusal) -> u8
         Refusal::R11 => 11,
         Refusal::R12 => 12,
         Refusal::R13 => 13,
+        Refusal::R14 => 14,
         Refusal::R15 => 15,
         Refusal::R16 => 16,
         Refusal::R17 => 17,

@@ -1,6 +1,7 @@
 -- The ten bytes, most significant first (document 01, "Ten bytes"). Assumes nothing.
 use Prim.Native.Nat.{ℕ, _<_}
 use mathlib.Core.List.{List, [], _∷_, _++_}
+use lib.ListN.{replicate}
 use Rattle.bits.specs.Bits.{nibble, nibbles, joined, split, bytesOf}
 use Rattle.block.specs.declared.FourPin.{FourPin}
 use Rattle.block.specs.declared.Parts.{Parts}
@@ -9,6 +10,10 @@ use Rattle.block.specs.Block.{Lut, Block}
 -- the length of a block
 abbrev pub blockBytes : ℕ
 blockBytes = 10
+
+-- ten zero bytes
+abbrev pub tenZeros : List ℕ
+tenZeros = replicate blockBytes 0
 
 -- nine pin fields of 4 bits (four of F, four of G, the direct pin), then the 16 rows of F, 16 of G, 8
 -- of H, then 4 zero bits

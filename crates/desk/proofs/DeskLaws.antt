@@ -17,11 +17,11 @@ use Rattle.blif.specs.Part.{inputsOf}
 use Rattle.blif.specs.Cover.{coverTable, coverRefusal, Reads}
 use Rattle.blif.proofs.CoverLaws.{reads-unique, read-table}
 use Rattle.line.specs.declared.Said.{Said}
-use Rattle.line.specs.Line.{refusalLine, Says, Answers, longest}
+use Rattle.line.specs.Line.{refusalLine, Says, SaysRefusal, Answers, longest}
 use Rattle.line.proofs.PartLaws.{says-lines}
 use Rattle.line.proofs.LineLaws.{text-unique, said-same, says-unique}
 use Rattle.line.proofs.LineLaws.{Short, refusal-short, lines-short, short-within, short-fits}
-use Rattle.desk.specs.Desk.{tableRoom, SaysRefusal, SaysCover, Tells}
+use Rattle.desk.specs.Desk.{tableRoom, SaysCover, Tells}
 
 -- the two cases of what reading answered
 pub tells-table : (text table before after : List ℕ) (cover : Cover) (n used : ℕ) (r : Said)

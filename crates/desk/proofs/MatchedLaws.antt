@@ -1,5 +1,5 @@
 -- The matcher never refuses what was read with 1, 2 or 3. Assumes nothing.
-use mathlib.Core.Path.{_≡_, refl, sym, _∙_}
+use mathlib.Core.Path.{_≡_, refl, _∙_}
 use mathlib.Core.Bool.{false}
 use mathlib.Core.List.{List, [], _∷_}
 use mathlib.Core.Logic.{_⊎_, inl, inr}
@@ -11,21 +11,12 @@ use Rattle.block.specs.declared.Written.{Written}
 use Rattle.block.specs.Refusal.{_when_, tableCases, tableRefusal}
 use Rattle.block.specs.Answer.{writtenOf}
 use Rattle.block.proofs.RefusalLaws.{first-append}
-use Rattle.block.proofs.AnswerLaws.{written-number}
-use Rattle.codec.specs.Ten.{packOf}
 use Rattle.codec.specs.Check.{noRoom}
-use Rattle.matcher.specs.Match.{matchRefusal, Matched, refused, unmatched, matched}
+use Rattle.matcher.specs.Match.{matchRefusal, Matched}
+use Rattle.matcher.proofs.BytesLaws.{matched-number}
 use Rattle.blif.specs.declared.Cover.the-variants.{Table}
 use Rattle.blif.specs.Cover.{Reads}
 use Rattle.blif.proofs.CoverLaws.{read-well-formed}
-
--- the number that matching answers is its refusal's, or 4
-matched-number : (n : ℕ) (t out out' : List ℕ) (r : Written) → Matched n t out out' r
-    → (writtenOf r .number ≡ matchRefusal n t (length out)) ⊎ (writtenOf r .number ≡ 4)
-matched-number n t out out' r (refused some w) = inl (written-number _ [] out out' r w)
-matched-number n t out out' r (unmatched none never w) = inr (written-number 4 [] out out' r w)
-matched-number n t out out' r (matched none b first w) =
-    inl (written-number 0 (packOf b) out out' r w ∙ sym none)
 
 module _ (text before after : List ℕ) (n used : ℕ) (read : Reads text before after (Table n used)) where
   -- only the room can be at fault

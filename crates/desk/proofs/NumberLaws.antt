@@ -17,6 +17,7 @@ use Rattle.block.specs.Refusal.{tooManyInputs}
 use Rattle.block.specs.Answer.{Answer, writtenOf}
 use Rattle.block.proofs.TableLaws.{bytes-most}
 use Rattle.block.proofs.AnswerLaws.{answered-number}
+use Rattle.codec.specs.Ten.{tenZeros}
 use Rattle.matcher.specs.Match.{Matched}
 use Rattle.words.specs.Text.{Word, contentOf}
 use Rattle.blif.specs.declared.Cover.{Cover}
@@ -24,7 +25,6 @@ use Rattle.blif.specs.declared.Cover.the-variants.{Table, Refused}
 use Rattle.blif.specs.Part.{namesOf, coverOf, inputsOf, isPart, repeats, bothOutputs}
 use Rattle.blif.specs.Cover.{coverRefusal, Reads}
 use Rattle.line.specs.declared.Said.{Said}
-use Rattle.line.specs.Line.{tenZeros}
 use Rattle.desk.specs.Desk.{tableRoom, SaysCover, Tells, IsTold}
 use Rattle.desk.proofs.MatchedLaws.{read-number}
 

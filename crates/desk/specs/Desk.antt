@@ -6,23 +6,16 @@ use mathlib.Core.Bool.{true}
 use mathlib.Core.List.{List, [], _∷_}
 use lib.ListN.{take, replicate}
 use Rattle.bits.specs.Tests.{member}
-use Rattle.block.specs.declared.Refusal.{Refusal}
 use Rattle.block.specs.Table.{mostInputs, tableBytes}
-use Rattle.block.specs.Refusal.{numberOf}
 use Rattle.blif.specs.declared.Cover.{Cover}
 use Rattle.blif.specs.declared.Cover.the-variants.{Table, Refused}
 use Rattle.blif.specs.Cover.{Reads}
 use Rattle.line.specs.declared.Said.{Said}
-use Rattle.line.specs.Line.{refusalLine, WritesText, Says}
+use Rattle.line.specs.Line.{Says, SaysRefusal}
 
 -- room for the longest table
 abbrev pub tableRoom : List ℕ
 tableRoom = replicate (tableBytes mostInputs) 0
-
--- a refusal's number and its line
-pub record SaysRefusal (k : Refusal) (before after : List ℕ) (r : Said) : Type 0 where
-  pub number : r .number ≡ numberOf k
-  pub written : WritesText (refusalLine (numberOf k)) before after (r .line)
 
 -- what is said of a cover that was read, its table at the start of the room
 unfoldable pub SaysCover : (cover : Cover) (table before after : List ℕ) (r : Said) → Type 0

@@ -1,14 +1,15 @@
 -- What stands in the 64 bits, and that they leave one answer. Assumes nothing.
 use mathlib.Core.Path.{_≡_, sym, ap, _∙_}
 use mathlib.Core.List.{List}
-use Prim.Native.Nat.{ℕ, zero, suc, _+_, _*_, _/_, _%_, _<_, _≤_}
+use Prim.Native.Nat.{ℕ, zero, suc, _+_, _*_, _/_, _%_, _^_, _<_, _≤_}
+use native.Mathlib.Nat.{mod-eq-of-lt}
 use native.Mathlib.Omega.{arith}
 use lib.ListN.{length}
 use Rattle.block.specs.declared.Written.{Written}
 use Rattle.block.specs.declared.Parts.{Parts}
 use Rattle.block.specs.declared.Refusal.{Refusal}
 use Rattle.block.specs.declared.Refusal.the-variants.{R1, R2, R3, R4, R5, R6, R7, R8, R9, R10}
-use Rattle.block.specs.declared.Refusal.the-variants.{R11, R12, R13, R15, R16, R17}
+use Rattle.block.specs.declared.Refusal.the-variants.{R11, R12, R13, R14, R15, R16, R17}
 use Rattle.block.specs.declared.Letter.{Letter}
 use Rattle.block.specs.declared.Letter.the-variants.{A, B, C}
 use Rattle.block.specs.Block.{Block}
@@ -23,11 +24,13 @@ use Rattle.codec.proofs.PackLaws.{pack-unique}
 use Rattle.round.proofs.PackedLaws.{packed-ten}
 use Rattle.matcher.specs.Match.{Matched, refused, unmatched, matched}
 use Rattle.matcher.proofs.UniqueMatch.{match-unique, acceptable}
+use Rattle.batch.specs.Batch.{Batched}
+use Rattle.batch.proofs.BatchLaws.{batch-unique, batch-within}
 use Rattle.record.specs.Record.{Record}
 use Rattle.record.specs.Told.{Placed}
 use Rattle.drawmitten_c.specs.Boundary.{Worded, writtenWord, MatchesC, PacksC, WrittenC}
 use Rattle.blif.proofs.CoverLaws.{reads-unique}
-use Rattle.drawmitten_c.specs.Boundary.{coverWord, CopiesC, AppendsC, CoversC}
+use Rattle.drawmitten_c.specs.Boundary.{longWord, BatchesC, coverWord, CopiesC, AppendsC, CoversC}
 
 -- the low 8 bits are the number, the bits above them the other part; so for a letter and its digit
 pub word-apart : (number part : ℕ) → number < 256
@@ -49,6 +52,7 @@ number-small R10 = omega arith
 number-small R11 = omega arith
 number-small R12 = omega arith
 number-small R13 = omega arith
+number-small R14 = omega arith
 number-small R15 = omega arith
 number-small R16 = omega arith
 number-small R17 = omega arith
@@ -57,6 +61,10 @@ pub letter-small : (l : Letter) → letterCode l < 256
 letter-small A = omega arith
 letter-small B = omega arith
 letter-small C = omega arith
+
+-- a length of less than 2^56 is told whole
+pub word-whole : (r : Written) → writtenOf r .parts < 2 ^ 56 → longWord r ≡ writtenWord r
+word-whole r small = ap (λ (k : ℕ). writtenOf r .number + k * 256) (mod-eq-of-lt small)
 
 part-fits : (refusal size : ℕ) → size ≤ blockBytes → answered refusal 0 size .parts ≤ blockBytes
 part-fits zero size fits = fits
@@ -94,6 +102,21 @@ pub match-c-unique : (n : ℕ) (t before after after' : List ℕ) (r q : ℕ)
     → MatchesC n t before after r → MatchesC n t before after' q → (r ≡ q) × (after ≡ after')
 match-c-unique n t before after after' r q =
     worded-unique writtenWord _ _ after after' r q (match-unique n t before after after')
+
+pub batch-c-unique : (s before after after' : List ℕ) (r q : ℕ)
+    → BatchesC s before after r → BatchesC s before after' q → (r ≡ q) × (after ≡ after')
+batch-c-unique s before after after' r q =
+    worded-unique longWord _ _ after after' r q (batch-unique s before after after')
+
+pub batch-c-whole : (s before after : List ℕ) (r : ℕ) → length before < 2 ^ 56
+    → BatchesC s before after r → Worded writtenWord (Batched s before after) r
+batch-c-whole s before after r small b =
+    let within = batch-within s before after (b .answer) (b .promised) in
+    record {
+      answer = b .answer;
+      promised = b .promised;
+      word = b .word ∙ word-whole (b .answer) (omega arith);
+    }
 
 pub pack-c-unique : (n : ℕ) (b : Block) (before after after' : List ℕ) (r q : ℕ)
     → PacksC n b before after r → PacksC n b before after' q → (r ≡ q) × (after ≡ after')

@@ -1,6 +1,6 @@
 -- One number of 64 bits: the refusal's number, or 0, in the low 8 bits, the other part of the answer
 -- above. Assumes nothing.
-use Prim.Native.Nat.{ℕ, _+_, _*_, _^_, _<_}
+use Prim.Native.Nat.{ℕ, _+_, _*_, _%_, _^_, _<_}
 use mathlib.Core.Path.{_≡_}
 use mathlib.Core.List.{List, [], _∷_}
 use lib.ListN.{length, getD}
@@ -12,6 +12,7 @@ use Rattle.codec.specs.Answers.{Packs}
 use Rattle.value.specs.Evaluate.{evaluateAnswer}
 use Rattle.types.specs.Typing.{typeAnswer}
 use Rattle.matcher.specs.Match.{Matched}
+use Rattle.batch.specs.Batch.{Batched}
 use Rattle.record.specs.Record.{Record, pairOf}
 use Rattle.record.specs.Told.{Placed}
 use Rattle.sheet.specs.Check.{sheetAnswer}
@@ -38,6 +39,15 @@ writtenWord answer = answerWord (writtenOf answer)
 -- the ten bytes of the first match in a lent buffer, and the length in use
 abbrev pub MatchesC : (n : ℕ) (t before after : List ℕ) (r : ℕ) → Type 0
 MatchesC n t before after r = Worded writtenWord (Matched n t before after) r
+
+-- of an answer whose length in use has no limit of its own: 56 bits of it, which are all of it in a
+-- buffer of less than 2^56 bytes
+abbrev pub longWord : Written → ℕ
+longWord answer = writtenOf answer .number + writtenOf answer .parts % 2 ^ 56 * 256
+
+-- a slot for each request of a build in a lent buffer, and the length in use
+abbrev pub BatchesC : (s before after : List ℕ) (r : ℕ) → Type 0
+BatchesC s before after r = Worded longWord (Batched s before after) r
 
 -- the number alone
 abbrev pub ChecksC : (n : ℕ) (s : List ℕ) (r : ℕ) → Type 0

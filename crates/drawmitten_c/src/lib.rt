@@ -2,11 +2,9 @@
 ghost use mathlib.Core.Path.{_≡_};
 ghost use Prim.Native.Nat.{_≤_};
 ghost use Rattle.block.specs.Code.{lutOf};
-ghost use Rattle.block.specs.Answer.{writtenOf};
-ghost use Rattle.codec.specs.Ten.{blockBytes};
 ghost use Rattle.record.specs.Record.{offered};
 ghost use Rattle.record.specs.Told.{toldOf};
-ghost use Rattle.drawmitten_c.specs.Boundary.{answerWord, MatchesC, ChecksC, EvaluatesC, TypesC, PacksC};
+ghost use Rattle.drawmitten_c.specs.Boundary.{longWord, MatchesC, BatchesC, ChecksC, EvaluatesC, TypesC, PacksC};
 ghost use Rattle.drawmitten_c.specs.Boundary.{lutFrom, blockFrom};
 ghost use Rattle.drawmitten_c.specs.Boundary.{toldWord, Of32Bits, CountsC, PlacesC, CopiesC, AppendsC};
 ghost use Rattle.drawmitten_c.specs.Boundary.{CoversC};
@@ -20,13 +18,12 @@ use record::Told;
 use types::Typed;
 use value::Evaluated;
 
-// The answer of a writer of a block as a number.
+// The answer of a writer as a number.
 fn answer_word(answer: Written) -> u64
-    requires { ⌜ writtenOf answer .parts ≤ blockBytes ⌝ }
-    ensures { λ r. ⌜ r ≡ answerWord (writtenOf answer) ⌝ }
+    ensures { λ r. ⌜ r ≡ longWord answer ⌝ }
 {
     match answer {
-        Written::Length(used) => (used as u64) * 256,
+        Written::Length(used) => (used as u64) % 72057594037927936 * 256,
         Written::Refused(k) => block::number(k) as u64,
     }
 }
@@ -37,6 +34,14 @@ pub extern "C" fn drawmitten_match(n: u8, t: &[u8], out: &mut [u8]) -> u64
     ensures { λ r. ⌜ MatchesC n (now (t .entry)) (now (out .entry)) (now (out .exit)) r ⌝ }
 {
     answer_word(matcher::first_match(n, t, out))
+}
+
+// A slot for each request of a build.
+#[no_mangle]
+pub extern "C" fn drawmitten_batch(build: &[u8], out: &mut [u8]) -> u64
+    ensures { λ r. ⌜ BatchesC (now (build .entry)) (now (out .entry)) (now (out .exit)) r ⌝ }
+{
+    answer_word(batch::answer(build, out))
 }
 
 // Whether ten bytes are a tidy block of n inputs.

@@ -15,14 +15,14 @@ use Rattle.block.specs.Refusal.{numberOf}
 use Rattle.block.specs.Answer.{writtenOf}
 use Rattle.block.proofs.RefusalLaws.{pick-zero}
 use Rattle.block.proofs.AnswerLaws.{written-unique, written-number, answered-parts}
-use Rattle.codec.specs.Ten.{unpackOf}
+use Rattle.codec.specs.Ten.{tenZeros, unpackOf}
 use Rattle.codec.proofs.CheckLaws.{accepted-of-none}
 use Rattle.matcher.specs.Match.{Matched}
 use Rattle.matcher.proofs.UniqueMatch.{match-unique}
 use Rattle.line.specs.declared.Said.{Said}
 use Rattle.line.specs.Text.{decimal}
 use Rattle.line.specs.Line.{blockLine, refusalLine, answerLine, WritesText}
-use Rattle.line.specs.Line.{tenZeros, Says, Lines, Answers, longest}
+use Rattle.line.specs.Line.{Says, Lines, Answers, longest}
 use Rattle.line.proofs.TextLaws.{hexadecimal-length, decimal-one}
 use Rattle.line.proofs.PartLaws.{digit-lt, ten-checked, says-lines}
 
@@ -71,7 +71,7 @@ unfolding blockLine
 block-length ten long =
     rw (decimal-one _ (digit-lt (unpackOf ten)), length-append, hexadecimal-length ten) (omega arith)
 
-answer-length : (n : ℕ) (t ten : List ℕ) (answer : Written) → Matched n t tenZeros ten answer
+pub answer-length : (n : ℕ) (t ten : List ℕ) (answer : Written) → Matched n t tenZeros ten answer
     → length (answerLine ten answer) ≤ longest
 answer-length n t ten (Length used) m =
     omega (arith, block-length ten (accepted-of-none n ten (ten-checked n t ten used m) .ten))

@@ -14,7 +14,7 @@ use Rattle.block.specs.Block.{Block}
 use Rattle.block.specs.Kind.{isShared, digitOf, typeOf}
 use Rattle.block.specs.Answer.{writtenOf}
 use Rattle.block.proofs.AnswerLaws.{answered-parts, writes-bytes}
-use Rattle.codec.specs.Ten.{packOf, unpackOf}
+use Rattle.codec.specs.Ten.{tenZeros, packOf, unpackOf}
 use Rattle.codec.specs.Check.{checkRefusal}
 use Rattle.codec.proofs.CheckLaws.{none-of-accepted}
 use Rattle.round.proofs.PackedLaws.{packed-ten, packed-accepted}
@@ -24,7 +24,7 @@ use Rattle.line.specs.declared.Said.{Said}
 use Rattle.words.specs.Text.{lineFeed, blank}
 use Rattle.line.specs.Text.{capitalR, digitCode}
 use Rattle.line.specs.Line.{typedLine, blockLine, refusalLine, answerLine, WritesText}
-use Rattle.line.specs.Line.{tenZeros, Says, Lines, Answers}
+use Rattle.line.specs.Line.{Says, Lines, Answers}
 use Rattle.line.proofs.TextLaws.{decimal-one, decimal-two}
 
 -- a text that fits, copied

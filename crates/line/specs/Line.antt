@@ -3,15 +3,16 @@ use Prim.Native.Nat.{ℕ, _+_}
 use mathlib.Core.Path.{_≡_}
 use mathlib.Core.List.{List, [], _∷_, _++_}
 use lib.Dec.{ltb}
-use lib.ListN.{length, replicate}
+use lib.ListN.{length}
 use Rattle.block.specs.declared.Written.{Written}
 use Rattle.block.specs.declared.Written.the-variants.{Length, Refused}
+use Rattle.block.specs.declared.Refusal.{Refusal}
 use Rattle.block.specs.declared.Kind.{Kind}
 use Rattle.block.specs.Table.{mostInputs, tableBytes}
 use Rattle.block.specs.Kind.{letterCode, typeOf}
 use Rattle.block.specs.Refusal.{_when_, firstOf, numberOf}
 use Rattle.block.specs.Answer.{writtenOf, Writes}
-use Rattle.codec.specs.Ten.{blockBytes, unpackOf}
+use Rattle.codec.specs.Ten.{tenZeros, unpackOf}
 use Rattle.matcher.specs.Match.{Matched}
 use Rattle.line.specs.declared.Said.{Said}
 use Rattle.words.specs.Text.{lineFeed, blank}
@@ -43,10 +44,6 @@ abbrev pub WritesText : (text before after : List ℕ) (r : Written) → Type 0
 WritesText text before after r =
     Writes (firstOf (5 when ltb (length before) (length text) ∷ [])) text before after r
 
--- ten bytes of room
-abbrev pub tenZeros : List ℕ
-tenZeros = replicate blockBytes 0
-
 -- What the line of a table of n inputs promises, with the number told beside it: the text of the
 -- answer that matching gives with ten bytes of room, and that answer's number.
 pub record Says (n : ℕ) (t before after : List ℕ) (r : Said) : Type 0 where
@@ -55,6 +52,11 @@ pub record Says (n : ℕ) (t before after : List ℕ) (r : Said) : Type 0 where
   pub matched : Matched n t tenZeros ten answer
   pub number : r .number ≡ writtenOf answer .number
   pub written : WritesText (answerLine ten answer) before after (r .line)
+
+-- a refusal's number and its line
+pub record SaysRefusal (k : Refusal) (before after : List ℕ) (r : Said) : Type 0 where
+  pub number : r .number ≡ numberOf k
+  pub written : WritesText (refusalLine (numberOf k)) before after (r .line)
 
 -- What the line alone promises.
 pub record Lines (n : ℕ) (t before after : List ℕ) (r : Written) : Type 0 where

@@ -98,14 +98,6 @@ pub fn paint(rows: Rows, marks: &[u8]) -> Rows
     Rows { words }
 }
 
-// How many bytes a table of n inputs fills.
-fn table_bytes(n: u8) -> usize
-    requires { ⌜ n ≤ 9 ⌝ }
-    ensures { λ r. ⌜ r ≡ tableBytes n ⌝ }
-{
-    if n <= 3 { 1 } else { 1 << (n - 3) }
-}
-
 // The rows of the first byte of a table of n inputs; any other byte has eight.
 fn rows_kept(n: u8) -> u8
     ensures { λ r. ⌜ r ≡ ofRows 8 (λ k. ltb k (tableRows n)) ⌝ }
@@ -160,7 +152,7 @@ pub fn write(n: u8, rows: Rows, flip: bool, out: &mut [u8]) -> Written
     if 9 < n {
         return Written::Refused(Refusal::R1);
     }
-    let size = table_bytes(n);
+    let size = block::table_bytes(n);
     if out.len() < size {
         return Written::Refused(Refusal::R5);
     }

@@ -2,6 +2,7 @@
 -- computes the table. Assumes nothing.
 use mathlib.Core.Path.{_≡_, sym, ap, _∙_}
 use mathlib.Core.List.{List, [], _++_}
+use mathlib.Core.Logic.{_⊎_, inl, inr}
 use Prim.Native.Nat.{ℕ}
 use native.Mathlib.Omega.{arith}
 use lib.ListN.{length, take, drop}
@@ -50,3 +51,11 @@ matched-bytes n t before after r (unmatched none never w) e =
 matched-bytes n t before after r (matched none b p w) e =
     rw (w .kept, front n t (length before) none b p (drop (length (packOf b)) before))
     (first-bytes n t (length before) none b p)
+
+-- the number that matching answers is its refusal's, or 4
+pub matched-number : (n : ℕ) (t before after : List ℕ) (r : Written) → Matched n t before after r
+    → (writtenOf r .number ≡ matchRefusal n t (length before)) ⊎ (writtenOf r .number ≡ 4)
+matched-number n t before after r (refused some w) = inl (written-number _ [] before after r w)
+matched-number n t before after r (unmatched none never w) = inr (written-number 4 [] before after r w)
+matched-number n t before after r (matched none b first w) =
+    inl (written-number 0 (packOf b) before after r w ∙ sym none)

@@ -2,14 +2,11 @@
 use mathlib.Core.Path.{_≡_}
 use mathlib.Core.Bool.{not}
 use mathlib.Core.List.{List}
-use Prim.Native.Nat.{ℕ, _-_, _<_, _≤_}
-use native.Mathlib.Omega.{arith}
-use lib.Dec.{eqb, leb}
+use Prim.Native.Nat.{ℕ, _<_, _≤_}
+use lib.Dec.{eqb}
 use lib.ListN.{length}
-use lib.Pow.{pow-pos}
 use borrow.Author.Tests.{ltb-false, le-ltb, lt-ltb, eqb-true, eq-eqb, ne-eqb, not-false}
 use Rattle.bits.specs.Tests.{pick}
-use Rattle.bits.proofs.SearchLaws.{byBool}
 use Rattle.block.specs.Table.{tableBytes, padding}
 use Rattle.block.specs.Refusal.{tooManyInputs}
 use Rattle.block.proofs.RefusalLaws.{pick-zero}
@@ -75,8 +72,3 @@ module _ (n : ℕ) (t : List ℕ) (room : ℕ) where
               eq-eqb (padding n t) 0 clean,
               le-ltb room 10 enough,
             )
-
--- a table has a first byte
-pub tableBytes-some : (n : ℕ) → 0 < tableBytes n
-tableBytes-some n =
-    byBool (leb n 3) (λ e. rw e (omega arith)) (λ e. rw e (pow-pos (n - 3)))

@@ -13,12 +13,13 @@ use Rattle.bits.proofs.TestLaws.{either-false}
 use Rattle.block.specs.declared.Written.{Written}
 use Rattle.block.specs.Block.{Block}
 use Rattle.block.proofs.AnswerLaws.{written-unique}
-use Rattle.codec.specs.Ten.{packOf}
+use Rattle.codec.specs.Ten.{tenZeros, packOf}
 use Rattle.codec.specs.Order.{before, comesBefore}
 use Rattle.round.specs.Acceptable.{Acceptable}
 use Rattle.round.proofs.PackedLaws.{packed-ten}
 use Rattle.matcher.specs.Match.{TidyMatch, First, matchRefusal, Matched}
 use Rattle.matcher.specs.Match.{refused, unmatched, matched}
+use Rattle.matcher.specs.Single.{Single}
 use Rattle.matcher.proofs.HeadLaws.{well-formed}
 
 -- neither comes before the other: the bytes are the same
@@ -71,3 +72,11 @@ match-unique n t before after after' r q (matched none b p w) (unmatched none' n
 match-unique n t before after after' r q (matched none b p w) (matched none' c p' w') =
     let same = first-unique n t (length before) none b c p p' in
     written-unique 0 (packOf b) before after after' r q w (rw same w')
+
+-- and what is made of it is one
+pub single-unique : (n : ℕ) (t : List ℕ) (of : List ℕ → Written → List ℕ) (a b : List ℕ)
+    → Single n t of a → Single n t of b → a ≡ b
+single-unique n t of a b s s' =
+    let same =
+    match-unique n t tenZeros (s .ten) (s' .ten) (s .answer) (s' .answer) (s .matched) (s' .matched) in
+    s .made ∙ ap₂ of (same .1) (same .0) ∙ sym (s' .made)

@@ -5,7 +5,7 @@ ghost use Prim.Native.Nat.{_<_, _≤_, _-_, _%_, _^_};
 ghost use lib.Bits.{bitAnd, bitOr};
 ghost use lib.Dec.{eqb};
 ghost use Rattle.bits.specs.Bits.{has};
-ghost use Rattle.block.specs.Table.{tableBytes, tableRows};
+ghost use Rattle.block.specs.Table.{tableRows};
 ghost use lib.ListN.{length};
 ghost use Rattle.block.specs.Code.{lutOf, blockOf};
 ghost use Rattle.subsets.specs.Masks.{pinsOfMask, Small};
@@ -36,16 +36,6 @@ enum Found {
     Nothing,
 }
 
-fn table_bytes(n: u8) -> usize
-    requires { ⌜ n ≤ 9 ⌝ }
-    ensures { λ r. ⌜ r ≡ tableBytes n ⌝ }
-{
-    if n <= 3 {
-        return 1;
-    }
-    1 << (n - 3)
-}
-
 // The bits of a table's first byte that are no rows.
 fn padding(n: u8, first: u8) -> u8
     ensures { λ r. ⌜ r ≡ first % 2 ^ (8 - tableRows n) ⌝ }
@@ -69,7 +59,7 @@ fn head(n: u8, t: &[u8], room: usize) -> Checked
     if MOST_INPUTS < n {
         return Checked::Refused(Refusal::R1);
     }
-    if t.len() != table_bytes(n) {
+    if t.len() != block::table_bytes(n) {
         return Checked::Refused(Refusal::R2);
     }
     if padding(n, t[0]) != 0 {

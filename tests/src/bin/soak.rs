@@ -1,6 +1,6 @@
-//! Compares all ten calls with the second versions for some time, on inputs that follow from a
-//! seed: functions of 0 to 9 inputs, covers, blocks and parts, and sheets, right and damaged; and
-//! covers that ABC writes, where it is installed.
+//! Compares all eleven calls with the second versions for some time, on inputs that follow from a
+//! seed: functions of 0 to 9 inputs, builds, covers, blocks and parts, and sheets, right and
+//! damaged; and covers that ABC writes, where it is installed.
 //!
 //! usage: soak VECTORS FOLDER SECONDS [SEED]
 //!
@@ -14,26 +14,34 @@ use edges::covers::vectors::Stock;
 use edges::random::Random;
 use edges::sheets::second::MOST;
 use edges::tally::Tally;
+use edges::vectors;
 use edges::words::Words;
-use edges::{blocks, covers, matching, sheets};
+use edges::{batches, blocks, covers, matching, sheets};
 use std::time::{Duration, Instant};
 
-/// How many blocks, parts, damaged tables, covers and small sheets are asked about in a round.
+/// How many blocks, parts, damaged tables, builds, covers and small sheets are asked about in a
+/// round.
 const OF_EACH: usize = 2000;
+
+/// How many pairs of builds are put together in a round.
+const PAIRS: usize = 100;
 
 /// How many networks ABC rewrites in a round.
 const NETWORKS: usize = 10;
 
-/// The judges of the four comparisons.
+/// The judges of the five comparisons.
 struct Judges {
     matching: matching::judge::Judge,
+    batches: batches::judge::Judge,
     blocks: blocks::judge::Judge,
     sheets: sheets::judge::Judge,
     covers: covers::judge::Judge,
 }
 
-/// What covers come from: the vectors, and ABC if it is installed, with how many it wrote.
+/// What builds come from, and covers: the vectors, and ABC if it is installed, with how many it
+/// wrote.
 struct Sources {
+    requests: batches::made::Stock,
     stock: Stock,
     abc: Option<Abc>,
     written: usize,
@@ -44,6 +52,7 @@ impl Judges {
     fn new() -> Judges {
         Judges {
             matching: matching::judge::Judge::new(String::new()),
+            batches: batches::judge::Judge::new(String::new()),
             blocks: blocks::judge::Judge::new(String::new()),
             sheets: sheets::judge::Judge::new(String::new()),
             covers: covers::judge::Judge::new(String::new()),
@@ -51,9 +60,10 @@ impl Judges {
     }
 
     /// The accounts of all.
-    fn tallies(&mut self) -> [&mut Tally; 4] {
+    fn tallies(&mut self) -> [&mut Tally; 5] {
         [
             &mut self.matching.tally,
+            &mut self.batches.tally,
             &mut self.blocks.tally,
             &mut self.sheets.tally,
             &mut self.covers.tally,
@@ -63,6 +73,16 @@ impl Judges {
     /// How many answers were compared.
     fn answers(&mut self) -> usize {
         self.tallies().map(|tally| tally.answers()).iter().sum()
+    }
+
+    /// Builds: damaged ones, and pairs of right ones.
+    fn builds(&mut self, sources: &Sources, random: &mut Random) {
+        for _ in 0..OF_EACH {
+            batches::groups::one_damaged(&mut self.batches, &sources.requests, random);
+        }
+        for _ in 0..PAIRS {
+            batches::groups::one_pair(&mut self.batches, random);
+        }
     }
 
     /// Covers: damaged ones, and those that ABC writes.
@@ -75,7 +95,8 @@ impl Judges {
         }
     }
 
-    /// One round: blocks, parts, tables, sheets and covers, and a function of each kind and n.
+    /// One round: blocks, parts, tables, sheets, builds and covers, and a function of each kind and
+    /// n.
     fn round(&mut self, sources: &mut Sources, seed: u64) {
         for tally in self.tallies() {
             tally.repeat = format!("sh tests/soak 1 {seed}");
@@ -87,6 +108,7 @@ impl Judges {
             matching::groups::damaged_table(&mut self.matching, &mut random);
             sheets::groups::one_damaged(&mut self.sheets, 5, &mut random);
         }
+        self.builds(sources, &mut random);
         self.covers(sources, &mut random);
         sheets::groups::one_right(&mut self.sheets, &mut random);
         sheets::groups::one_damaged(&mut self.sheets, MOST, &mut random);
@@ -100,11 +122,12 @@ impl Judges {
 /// Compares round by round until the time is over.
 fn main() {
     let mut words = Words::given("soak VECTORS FOLDER SECONDS [SEED]");
-    let (vectors, folder): (String, String) = (words.next(), words.next());
+    let (vectors_folder, folder): (String, String) = (words.next(), words.next());
     let seconds = words.next();
     let seed = words.seed();
     let mut sources = Sources {
-        stock: Stock::below(&vectors),
+        requests: batches::made::Stock::of(&vectors::all(&vectors_folder)),
+        stock: Stock::below(&vectors_folder),
         abc: Abc::found(&folder),
         written: 0,
     };

@@ -3,7 +3,7 @@
 use crate::document;
 use crate::hexadecimal::hexadecimal;
 use crate::program::judge::Case;
-use crate::program::run::{Input, Left, Output};
+use crate::program::run::{left, whole, Input, Output};
 use crate::table::{refusal, table_length};
 use crate::vectors::Line;
 use std::time::Duration;
@@ -18,16 +18,11 @@ const LONG: Duration = Duration::from_millis(60);
 
 /// A run that ends with status 0 and leaves these texts.
 fn case(input: Input, output: Output, printed: &str, errors: &str) -> Case {
-    let wanted = Left {
-        output: printed.into(),
-        errors: errors.into(),
-        end: 0,
-    };
     Case {
         words: vec![],
         input,
         output,
-        wanted,
+        wanted: left(printed, errors),
     }
 }
 
@@ -120,10 +115,7 @@ fn in_pieces(vectors: &[Line]) -> Vec<Case> {
 fn failures() -> Vec<Case> {
     let right = vec![1, 0x40];
     let fails = |input| case(input, Output::Pipe, "", NOT_READ);
-    let unwritten = |bytes: &[u8], output| {
-        let input = Input::Pieces(vec![bytes.to_vec()], Duration::ZERO);
-        case(input, output, "", NOT_WRITTEN)
-    };
+    let unwritten = |bytes: &[u8], output| case(whole(bytes), output, "", NOT_WRITTEN);
     vec![
         case(Input::Path("/dev/zero"), Output::Pipe, "R 2\n", ""),
         case(Input::Path("/dev/null"), Output::Pipe, "R 2\n", ""),

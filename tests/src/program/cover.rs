@@ -3,7 +3,7 @@
 
 use crate::covers::vectors::{Stock, Vector};
 use crate::program::judge::Case;
-use crate::program::run::{run, Input, Left, Output};
+use crate::program::run::{left, line_of, whole, Input, Left, Output};
 use std::fs;
 use std::time::Duration;
 
@@ -72,15 +72,6 @@ fn beside(line: &str) -> String {
     line.strip_prefix("R ").map(meaning).unwrap_or_default()
 }
 
-/// What is left by a run that ends with status 0 and writes these texts.
-fn left(printed: &str, errors: &str) -> Left {
-    Left {
-        output: printed.into(),
-        errors: errors.into(),
-        end: 0,
-    }
-}
-
 /// What a run must leave that answers with this line, given without its line feed.
 fn answered(line: &str) -> Left {
     left(&format!("{line}\n"), &beside(line))
@@ -104,11 +95,6 @@ fn named(words: &[&str], wanted: Left) -> Case {
     }
 }
 
-/// The text in one piece.
-fn whole(text: &[u8]) -> Input {
-    Input::Pieces(vec![text.to_vec()], Duration::ZERO)
-}
-
 /// The text in a file, from standard input and by name.
 fn both(path: &str, wanted: fn(&str) -> Left, said: &str) -> [Case; 2] {
     let text = fs::read(path).unwrap_or_else(|wrong| panic!("{path}: {wrong}"));
@@ -116,15 +102,6 @@ fn both(path: &str, wanted: fn(&str) -> Left, said: &str) -> [Case; 2] {
         read(whole(&text), wanted(said)),
         named(&[path], wanted(said)),
     ]
-}
-
-/// What the program for tables prints for n and a table, without the line feed.
-fn line_of(drawmitten: &str, n: u8, table: &[u8]) -> String {
-    let asked = whole(&[&[n], table].concat());
-    let left = run(drawmitten, &[], &asked, &Output::Pipe);
-    let left = left.unwrap_or_else(|wrong| panic!("{drawmitten} is not run: {wrong}"));
-    let line = String::from_utf8(left.output).expect("a line of ASCII");
-    line.trim_end_matches('\n').to_string()
 }
 
 /// The vectors: covers, and texts with a line that is continued.

@@ -14,9 +14,30 @@ pub struct Case {
     pub wanted: Left,
 }
 
+/// The most bytes of an output that are shown.
+const SHOWN: usize = 1000;
+
+/// The lines of an output, each with its end.
+fn lines(left: &Left) -> Vec<String> {
+    let lines = left.output.split_inclusive(|byte| *byte == b'\n');
+    lines.map(|line| line.escape_ascii().to_string()).collect()
+}
+
+/// The first line of two outputs that is not the same, counted from 0, for a reader of a difference.
+fn first_line(left: &Left, wanted: &Left) -> String {
+    let (is, must) = (lines(left), lines(wanted));
+    let same = is.iter().zip(&must).take_while(|(is, must)| is == must);
+    let place = same.count();
+    if is.len().max(must.len()) == place {
+        return "the lines are the same".to_string();
+    }
+    let [is, must] = [is, must].map(|lines| lines.get(place).cloned().unwrap_or_default());
+    format!("line {place} is \"{is}\", wanted: \"{must}\"")
+}
+
 /// What a run left, for a reader of a difference.
 fn described(left: &Left) -> String {
-    let text = |bytes: &[u8]| bytes.escape_ascii().to_string();
+    let text = |bytes: &[u8]| bytes[..bytes.len().min(SHOWN)].escape_ascii().to_string();
     let end = match left.end {
         -1 => "no exit status (a signal, or it did not end)".to_string(),
         status => format!("status {status}"),
@@ -25,16 +46,21 @@ fn described(left: &Left) -> String {
     format!("printed \"{output}\", on standard error \"{errors}\", {end}")
 }
 
-/// The input, for a reader of a difference: the first bytes of long pieces.
-fn asked(input: &Input) -> String {
-    let Input::Pieces(pieces, pause) = input else {
-        return format!("{input:02X?}");
-    };
+/// Pieces, for a reader of a difference: how many bytes they have, and the first of each.
+fn parts(pieces: &[Vec<u8>]) -> String {
     let part = |piece: &Vec<u8>| format!("{:02X?}", &piece[..piece.len().min(66)]);
     let parts: Vec<String> = pieces.iter().map(part).collect();
     let length: usize = pieces.iter().map(Vec::len).sum();
-    let parts = parts.join(" ");
-    format!("{length} bytes, pauses of {pause:?}: {parts}")
+    format!("{length} bytes, {}", parts.join(" "))
+}
+
+/// The input, for a reader of a difference: the first bytes of what is long.
+fn asked(input: &Input) -> String {
+    match input {
+        Input::Pieces(pieces, pause) => format!("{}, pauses of {pause:?}", parts(pieces)),
+        Input::Broken(bytes) => format!("{}, then broken", parts(std::slice::from_ref(bytes))),
+        _ => format!("{input:?}"),
+    }
 }
 
 /// Runs a case; a difference ends everything.
@@ -43,9 +69,10 @@ fn judge(program: &str, case: &Case) {
     let left = left.unwrap_or_else(|wrong| panic!("{program} is not run: {wrong}"));
     if left != case.wanted {
         let (words, input, output) = (&case.words, asked(&case.input), &case.output);
+        let line = first_line(&left, &case.wanted);
         let (left, wanted) = (described(&left), described(&case.wanted));
         println!("differ: arguments {words:?}, input {input}, output {output:?}");
-        println!("  it {left}\n  wanted: {wanted}");
+        println!("  it {left}\n  wanted: {wanted}\n  {line}");
         std::process::exit(1);
     }
 }

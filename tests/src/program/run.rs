@@ -1,15 +1,18 @@
 //! One run of the program: what it is given, and everything that it leaves.
 
-use std::fs::{File, OpenOptions};
-use std::io::{Read, Write};
+use std::fs::{remove_file, File, OpenOptions};
+use std::io::{Read, Seek, Write};
 use std::os::fd::OwnedFd;
 use std::os::unix::net::UnixStream;
 use std::process::{Child, ChildStdin, Command, ExitStatus, Stdio};
-use std::thread::{sleep, spawn};
+use std::thread::{current, sleep, spawn, JoinHandle};
 use std::time::{Duration, Instant};
 
 /// How long the program may take.
 const LIMIT: Duration = Duration::from_secs(20);
+
+/// The bytes that the limit of a file counts as one.
+pub const BLOCK: usize = 512;
 
 /// Where standard input comes from.
 #[derive(Clone, Debug)]
@@ -31,6 +34,8 @@ pub enum Output {
     Pipe,
     Full,
     Closed,
+    /// A file that takes so many blocks: what is written beyond them fails.
+    Limited(usize),
 }
 
 /// What a run leaves: both outputs, and how it ended, with 0 for status 0.
@@ -41,26 +46,50 @@ pub struct Left {
     pub end: i32,
 }
 
-/// The command, to which arguments can be added: a shell closes what is to be closed.
+/// These bytes through a pipe, in one piece.
+pub fn whole(bytes: &[u8]) -> Input {
+    Input::Pieces(vec![bytes.to_vec()], Duration::ZERO)
+}
+
+/// What is left by a run that ends with status 0 and writes these texts.
+pub fn left(printed: &str, errors: &str) -> Left {
+    Left {
+        output: printed.into(),
+        errors: errors.into(),
+        end: 0,
+    }
+}
+
+/// The command, to which arguments can be added: a shell closes what is to be closed, and sets the
+/// limit of a file.
 fn command(program: &str, input: &Input, output: &Output) -> Command {
+    let limit = match output {
+        Output::Limited(blocks) => format!("trap '' XFSZ && ulimit -f {blocks} && "),
+        _ => String::new(),
+    };
     let close = match (input, output) {
         (Input::Closed, Output::Closed) => "<&- >&-",
         (Input::Closed, _) => "<&-",
         (_, Output::Closed) => ">&-",
-        _ => return Command::new(program),
+        _ => "",
     };
+    if limit.is_empty() && close.is_empty() {
+        return Command::new(program);
+    }
+    let script = format!("{limit}exec \"$0\" \"$@\" {close}");
     let mut command = Command::new("sh");
-    command.args(["-c", &format!("exec \"$0\" \"$@\" {close}"), program]);
+    command.args(["-c", &script, program]);
     command
 }
 
-/// An end of a connection from which these bytes are read before a read fails: the other end was
-/// closed with a byte unread.
+/// An end of a connection from which these bytes are read before a read fails: the other end is
+/// closed after them, with a byte unread. They are written while the program runs, since the
+/// connection may hold fewer.
 fn broken(bytes: &[u8]) -> std::io::Result<Stdio> {
     let (mut near, mut far) = UnixStream::pair()?;
-    far.write_all(bytes)?;
     near.write_all(&[0])?;
-    drop(far);
+    let bytes = bytes.to_vec();
+    spawn(move || far.write_all(&bytes));
     Ok(OwnedFd::from(near).into())
 }
 
@@ -75,13 +104,31 @@ fn standard_input(input: &Input) -> std::io::Result<Stdio> {
     }
 }
 
-/// Standard output for a run.
-fn standard_output(output: &Output) -> std::io::Result<Stdio> {
-    match output {
-        Output::Pipe => Ok(Stdio::piped()),
-        Output::Full => Ok(OpenOptions::new().write(true).open("/dev/full")?.into()),
-        Output::Closed => Ok(Stdio::null()),
-    }
+/// An empty file, which has no name any more.
+fn unnamed() -> std::io::Result<File> {
+    let name = format!("edges-{}-{:?}", std::process::id(), current().id());
+    let path = std::env::temp_dir().join(name);
+    let file = File::options()
+        .read(true)
+        .write(true)
+        .create_new(true)
+        .open(&path)?;
+    remove_file(&path)?;
+    Ok(file)
+}
+
+/// Standard output for a run, and the file that is to be read after it, if there is one.
+fn standard_output(output: &Output) -> std::io::Result<(Stdio, Option<File>)> {
+    let stdio = match output {
+        Output::Pipe => Stdio::piped(),
+        Output::Full => OpenOptions::new().write(true).open("/dev/full")?.into(),
+        Output::Closed => Stdio::null(),
+        Output::Limited(_) => {
+            let file = unnamed()?;
+            return Ok((file.try_clone()?.into(), Some(file)));
+        }
+    };
+    Ok((stdio, None))
 }
 
 /// Writes pieces to the program, as long as it reads.
@@ -109,13 +156,15 @@ fn ended(child: &mut Child) -> std::io::Result<Option<ExitStatus>> {
     Ok(None)
 }
 
-/// Everything that an output holds, if there is one.
-fn whole(output: Option<impl Read>) -> std::io::Result<Vec<u8>> {
-    let mut bytes = vec![];
-    if let Some(mut output) = output {
-        output.read_to_end(&mut bytes)?;
-    }
-    Ok(bytes)
+/// Takes everything that an output holds, if there is one, while the program runs.
+fn taken(output: Option<impl Read + Send + 'static>) -> JoinHandle<std::io::Result<Vec<u8>>> {
+    spawn(|| {
+        let mut bytes = vec![];
+        if let Some(mut output) = output {
+            output.read_to_end(&mut bytes)?;
+        }
+        Ok(bytes)
+    })
 }
 
 /// Runs the program with these arguments.
@@ -125,19 +174,35 @@ pub fn run(
     input: &Input,
     output: &Output,
 ) -> std::io::Result<Left> {
+    let (stdout, file) = standard_output(output)?;
     let mut child = command(program, input, output)
         .args(words)
         .stdin(standard_input(input)?)
-        .stdout(standard_output(output)?)
+        .stdout(stdout)
         .stderr(Stdio::piped())
         .spawn()?;
     if let (Input::Pieces(pieces, pause), Some(pipe)) = (input.clone(), child.stdin.take()) {
         spawn(move || feed(pipe, pieces, pause));
     }
+    let (output, errors) = (taken(child.stdout.take()), taken(child.stderr.take()));
     let status = ended(&mut child)?;
+    let mut printed = output.join().expect("the thread ends")?;
+    if let Some(mut file) = file {
+        file.rewind()?;
+        file.read_to_end(&mut printed)?;
+    }
     Ok(Left {
-        output: whole(child.stdout.take())?,
-        errors: whole(child.stderr.take())?,
+        output: printed,
+        errors: errors.join().expect("the thread ends")?,
         end: status.and_then(|status| status.code()).unwrap_or(-1),
     })
+}
+
+/// What the program for tables prints for n and a table, without the line feed.
+pub fn line_of(drawmitten: &str, n: u8, table: &[u8]) -> String {
+    let asked = whole(&[&[n], table].concat());
+    let left = run(drawmitten, &[], &asked, &Output::Pipe);
+    let left = left.unwrap_or_else(|wrong| panic!("{drawmitten} is not run: {wrong}"));
+    let line = String::from_utf8(left.output).expect("a line of ASCII");
+    line.trim_end_matches('\n').to_string()
 }

@@ -3,7 +3,8 @@ use mathlib.Core.Path.{_≡_, sym, _∙_}
 use native.Mathlib.Omega.{arith}
 use lib.ListN.{length}
 use Rattle.block.specs.Table.{tableBytes, padding}
-use Rattle.matcher.proofs.HeadLaws.{refuses-1, refuses-2, refuses-3, refuses-5, passes, tableBytes-some}
+use Rattle.block.proofs.TableLaws.{bytes-some, length-within}
+use Rattle.matcher.proofs.HeadLaws.{refuses-1, refuses-2, refuses-3, refuses-5, passes}
 use Rattle.matcher.proofs.head.Statement.{statement}
 use Rattle.matcher.proofs.head.Tie as tie
 
@@ -11,24 +12,30 @@ returns : tie.Need-returns
 returns c =
     let a = c .before .before .args in refuses-1 (a .n) (a .t .now) (a .room) (omega arith)
 
+-- the length that a table of n inputs has
+the-length : (c : tie.After-table-bytes)
+    → c .table-bytes .result ≡ tableBytes (c .before .before .before .args .n)
+the-length c =
+    c .table-bytes .ensures ∙ length-within (c .before .before .before .args .n) (omega arith)
+
 returns-2 : tie.Need-returns-2
 returns-2 c =
     let one = c .before .before in
     let a = one .before .before .args in
     refuses-2 (a .n) (a .t .now) (a .room) (omega arith)
-    (λ e. c .if2 .taken (e ∙ sym (c .before .table-bytes .ensures)))
+    (λ e. c .if2 .taken (e ∙ sym (the-length (c .before))))
 
 right-length : (c : tie.Else2)
     → length (c .before .before .before .before .args .t .now)
     ≡ tableBytes (c .before .before .before .before .args .n)
-right-length c = c .if2 .left ∙ c .before .table-bytes .ensures
+right-length c = c .if2 .left ∙ the-length (c .before)
 
 slice-read : tie.Need-shared-slice-read-padding
 slice-read c =
     omega (
       arith,
       right-length (c .before),
-      tableBytes-some (c .before .before .before .before .before .args .n),
+      bytes-some (c .before .before .before .before .before .args .n),
     )
 
 returns-3 : tie.Need-returns-3

@@ -1,0 +1,2 @@
+-- The lines of a build. Assumes nothing.
+pub mod Listing
