@@ -5,7 +5,7 @@ use crate::batches::groups::{damaged_build, of_one_byte_each};
 use crate::batches::made::{self, build, shuffle, some, zero, Request, Stock};
 use crate::batches::second::{requests, Outcome, Slot};
 use crate::hexadecimal::hexadecimal;
-use crate::program::judge::Case;
+use crate::program::judge::{read, Case};
 use crate::program::run::{left, line_of, whole, Input, Left, Output, BLOCK};
 use crate::random::Random;
 use crate::vectors::Line;
@@ -106,16 +106,6 @@ fn tells(wanted: &Left, outcome: &Outcome) -> bool {
     let lines: Vec<&[u8]> = lines.collect();
     let mut pairs = lines.iter().zip(slots);
     lines.len() == slots.len() && pairs.all(|(line, slot)| line.ends_with(told(slot).as_bytes()))
-}
-
-/// A run without arguments, whose output can be written, that must leave this.
-fn read(input: Input, wanted: Left) -> Case {
-    Case {
-        words: vec![],
-        input,
-        output: Output::Pipe,
-        wanted,
-    }
 }
 
 /// The line of each vector is the one that the vectors tell.

@@ -2,7 +2,7 @@
 //! are made here have `SECRET` in them, and nothing that is wanted has.
 
 use crate::covers::vectors::{Stock, Vector};
-use crate::program::judge::Case;
+use crate::program::judge::{read, Case};
 use crate::program::run::{left, line_of, whole, Input, Left, Output};
 use std::fs;
 use std::time::Duration;
@@ -75,16 +75,6 @@ fn beside(line: &str) -> String {
 /// What a run must leave that answers with this line, given without its line feed.
 fn answered(line: &str) -> Left {
     left(&format!("{line}\n"), &beside(line))
-}
-
-/// A run on standard input that must leave this.
-fn read(input: Input, wanted: Left) -> Case {
-    Case {
-        words: vec![],
-        input,
-        output: Output::Pipe,
-        wanted,
-    }
 }
 
 /// A run with these arguments, and nothing on standard input, that must leave this.

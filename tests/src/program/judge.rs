@@ -14,6 +14,16 @@ pub struct Case {
     pub wanted: Left,
 }
 
+/// A run without arguments, whose output can be written, that must leave this.
+pub fn read(input: Input, wanted: Left) -> Case {
+    Case {
+        words: vec![],
+        input,
+        output: Output::Pipe,
+        wanted,
+    }
+}
+
 /// The most bytes of an output that are shown.
 const SHOWN: usize = 1000;
 
