@@ -31,8 +31,8 @@
  * A BLOCK is ten bytes: nine pin fields of 4 bits (four of F, four of G, the direct pin), each a variable below n or 15
  * for open, then 16 rows of F, 16 of G, 8 of H, row 0 first, then 4 zero bits. Its value is H(F, G, direct pin). In F
  * and G the first pin weighs 8, then 4, 2, 1; in H the output of F weighs 4, that of G 2, the direct pin 1. An open pin
- * reads 0. A block is TIDY if in F, and likewise in G, the carried variables strictly ascend from the first pin with the
- * open pins last, and every row that needs a 1 on an open pin is 0, rows of H with an open direct pin included.
+ * reads 1. A block is TIDY if in F, and likewise in G, the carried variables strictly ascend from the first pin with the
+ * open pins last, and every row that needs a 0 on an open pin is 0, rows of H with an open direct pin included.
  * A BUILD is requests back to back and nothing else: each is one byte n, 0 to 9, and then as many bytes as a table of n
  * inputs has, and begins wherever the one before it ended. A build of none has length 0. The SLOT of a request is 11
  * bytes: 0 and the ten bytes of the block that matching gives for it, or the number with which matching refuses it, 3
@@ -51,7 +51,7 @@
  *       for a build; fewer than 14 for a record, or 4,681 records already
  *    6  a pin field is neither below n nor 15 (16 and more included)
  *    7  F or G out of order, repeated, or open before carried
- *    8  a row that needs a 1 on an open pin is set
+ *    8  a row that needs a 0 on an open pin is set
  *    9  the last four bits are not zero
  *   10  spacecraft number 0; of a record being added also a spacecraft number above 65,535 or a block number above 4,095
  *   11  a record's number pair is not above the one before it

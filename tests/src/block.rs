@@ -1,7 +1,7 @@
-//! What a block computes, read from its ten bytes as document 01 says.
+//! What a block computes, read from its ten bytes as document 01 with request 3 says.
 
 use crate::table::table_of;
-use crate::ten::{fields, number, OPEN};
+use crate::ten::{fields, number, OPEN, OPEN_LEVEL};
 
 /// The places of the first rows of F, G and H among the 80 bits.
 const F_ROWS: usize = 36;
@@ -16,7 +16,7 @@ fn bit(ten: u128, place: usize) -> usize {
 /// What a pin with this field reads at a row of the function.
 fn pin_value(field: u8, row: usize) -> usize {
     match field {
-        OPEN => 0,
+        OPEN => OPEN_LEVEL,
         variable => row >> variable & 1,
     }
 }

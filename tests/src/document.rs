@@ -1,4 +1,4 @@
-//! The examples of document 01.
+//! The examples of document 01 with request 3, in which an open pin reads 1.
 
 use crate::table::table_of;
 use crate::ten::bytes;
@@ -28,7 +28,7 @@ pub fn matches() -> [Matched; 8] {
     let parity = |n: usize| table_of(n, |row| row.count_ones() % 2 == 1);
     let four = vec![0, 0, 0xFF, 0xFF];
     [
-        matched(0, vec![0x80], "A-0", 0xFF_FF_FF_FF_F0_00_00_00_08_00),
+        matched(0, vec![0x80], "A-0", 0xFF_FF_FF_FF_F0_00_00_00_04_00),
         matched(0, vec![0x00], "A-0", 0xFF_FF_FF_FF_F0_00_00_00_00_00),
         matched(1, vec![0x40], "C-0", 0x0F_FF_0F_FF_00_00_00_00_04_00),
         matched(5, four, "A-4", 0x01_23_01_23_40_00_00_00_04_00),
@@ -50,12 +50,18 @@ pub fn refused_tables() -> [(u8, Vec<u8>, u8); 4] {
     ]
 }
 
-/// P10 to P12 and Q4: n, ten bytes, and the number with which checking refuses them.
+/// P10, P11, P1 as document 01 has it and Q4: n, ten bytes, and the number with which checking
+/// refuses them.
 pub fn refused_blocks() -> [(u8, [u8; 10], u8); 4] {
     [
         (1, bytes(0x1F_FF_FF_FF_F0_00_00_00_00_00), 6),
         (2, bytes(0x10_FF_FF_FF_F0_00_00_00_00_00), 7),
-        (0, bytes(0xFF_FF_FF_FF_F0_00_00_00_04_00), 8),
+        (0, bytes(0xFF_FF_FF_FF_F0_00_00_00_08_00), 8),
         (1, bytes(0x0F_FF_0F_FF_00_00_00_00_04_01), 9),
     ]
+}
+
+/// P12: n and ten bytes, which pass.
+pub fn passing_block() -> (u8, [u8; 10]) {
+    (0, bytes(0xFF_FF_FF_FF_F0_00_00_00_04_00))
 }

@@ -1,13 +1,7 @@
 //! Tidy blocks made anew from a seed.
 
 use crate::random::Random;
-use crate::ten::{bytes, joined, OPEN};
-
-/// For a four-pin table that carries 0 to 4 pins, the rows that need no 1 on an open pin.
-const READABLE: [u16; 5] = [0x8000, 0x8080, 0x8888, 0xAAAA, 0xFFFF];
-
-/// The rows of H that need no 1 on the direct pin.
-const WITHOUT_DIRECT: u8 = 0xAA;
+use crate::ten::{bytes, joined, OPEN, OPEN_LEVEL};
 
 /// The variables below n.
 pub fn below(n: u8) -> Vec<u8> {
@@ -39,19 +33,26 @@ fn pins(variables: &[u8]) -> [u8; 4] {
     pins
 }
 
+/// Of so many rows, row 0 in the highest bit, those that a table reads whose last pins, as many as
+/// `open`, are open.
+fn readable(rows: usize, open: usize) -> u16 {
+    let ends = 1 << open;
+    let read = |row: &usize| row % ends == (ends - 1) * OPEN_LEVEL;
+    let bit = |row: usize| 1 << (rows - 1 - row);
+    (0..rows).filter(read).map(bit).sum()
+}
+
 /// A tidy block with these variables on F and on G and these for the direct pin to choose from.
 fn filled(f: &[u8], g: &[u8], directs: &[u8], random: &mut Random) -> [u8; 10] {
     let open = directs.is_empty() || random.below(8) == 0;
-    let (direct, rows) = match open {
-        true => (OPEN, WITHOUT_DIRECT),
-        false => (random.one(directs), 0xFF),
-    };
-    let mut table = |carried: &[u8]| random.bits() as u16 & READABLE[carried.len()];
-    let tables = (table(f), table(g), random.bits() as u8 & rows);
+    let direct = if open { OPEN } else { random.one(directs) };
+    let mut table = |carried: &[u8]| random.bits() as u16 & readable(16, 4 - carried.len());
+    let (f_rows, g_rows) = (table(f), table(g));
+    let h_rows = random.bits() as u8 & readable(8, open as usize) as u8;
     let mut fields = [direct; 9];
     fields[..4].copy_from_slice(&pins(f));
     fields[4..8].copy_from_slice(&pins(g));
-    bytes(joined(&fields, tables))
+    bytes(joined(&fields, (f_rows, g_rows, h_rows)))
 }
 
 /// A tidy block that carries no variable twice.
@@ -80,8 +81,9 @@ pub fn either(variables: &[u8], random: &mut Random) -> [u8; 10] {
 #[cfg(test)]
 mod tests {
     use super::{below, either};
+    use crate::blocks::parts::Parts;
     use crate::random::Random;
-    use crate::ten::tidy;
+    use crate::ten::{tidy, OPEN};
 
     #[test]
     fn makes_tidy_blocks() {
@@ -90,5 +92,21 @@ mod tests {
             let block = either(&below(n), &mut random);
             assert!(tidy(n, &block), "n {n}: {block:02X?}");
         }
+    }
+
+    #[test]
+    fn sets_every_row_that_may_be_set() {
+        let mut random = Random(1);
+        let mut set = [[0; 5]; 3];
+        for n in (0..=9).flat_map(|n| [n; 2000]) {
+            let Parts { fields, tables, .. } = Parts::of(n, &either(&below(n), &mut random));
+            let carried = |pins: &[u8]| pins.iter().filter(|pin| **pin != OPEN).count();
+            set[0][carried(&fields[..4])] |= tables.0;
+            set[1][carried(&fields[4..8])] |= tables.1;
+            set[2][carried(&fields[8..])] |= tables.2 as u16;
+        }
+        let counts = set.map(|rows| rows.map(u16::count_ones));
+        let four_pins = [1, 2, 4, 8, 16];
+        assert_eq!(counts, [four_pins, four_pins, [4, 8, 0, 0, 0]]);
     }
 }

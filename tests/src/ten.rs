@@ -1,10 +1,13 @@
-//! The ten bytes of a block as one number of 80 bits, and the rules of document 01 for them, each
-//! by itself.
+//! The ten bytes of a block as one number of 80 bits, and the rules of document 01 with request 3
+//! for them, each by itself.
 
 use std::iter::repeat;
 
 /// The field of an open pin.
 pub const OPEN: u8 = 15;
+
+/// What an open pin reads.
+pub const OPEN_LEVEL: usize = 1;
 
 /// The number that bytes stand for, the first the most significant.
 pub fn number(bytes: &[u8]) -> u128 {
@@ -52,17 +55,17 @@ pub fn out_of_order(ten: u128) -> bool {
     unlike_set(&fields[..4]) || unlike_set(&fields[4..8])
 }
 
-/// Whether a table holds a 1 in a row that needs a 1 on an open pin. The first pin weighs most, and
+/// Whether a table holds a 1 in a row that needs a 0 on an open pin. The first pin weighs most, and
 /// row 0 is the highest bit of the rows.
 fn needs_open(open: &[bool], rows: u128) -> bool {
     let count = 1 << open.len();
     let holds_1 = |row: &usize| rows >> (count - 1 - row) & 1 == 1;
     let pins = || open.iter().rev().enumerate();
-    let needs = |row: usize| pins().any(|(weight, open)| *open && row >> weight & 1 == 1);
+    let needs = |row: usize| pins().any(|(weight, open)| *open && row >> weight & 1 != OPEN_LEVEL);
     (0..count).filter(holds_1).any(needs)
 }
 
-/// Rule 8: whether a row of F, G or H that needs a 1 on an open pin is set.
+/// Rule 8: whether a row of F, G or H that needs a 0 on an open pin is set.
 pub fn row_wrong(ten: u128) -> bool {
     let open = fields(ten).map(|field| field == OPEN);
     needs_open(&open[..4], ten >> 28 & 0xFFFF)

@@ -1,6 +1,8 @@
 //! Vector files: on each line n, the table in hexadecimal, and what the program prints for it: the
-//! type and the ten bytes, or `R 4` for no match. The answers are those of two matchers of
-//! different method, neither of them the product's or the second matcher here.
+//! type and the ten bytes, or `R 4` for no match. The answers of those that bench/run times are
+//! those of two matchers of different method. Those of `match-small-high.txt` and
+//! `match-mixed-high.txt` are one matcher's, and in the first they are checked against exhaustive
+//! contents. None of these matchers is the product's or the second matcher here.
 
 use crate::hexadecimal::bytes_of;
 
@@ -54,4 +56,41 @@ pub fn all(folder: &str) -> Vec<Line> {
     names
         .flat_map(|name| lines(&format!("{folder}/{name}")))
         .collect()
+}
+
+#[cfg(test)]
+mod tests {
+    use super::{all, Line};
+    use crate::blocks::second::{check, evaluate, type_of, typed};
+    use crate::library::Answer;
+    use crate::table::table_of;
+    use crate::ten::{fields, number, OPEN};
+
+    /// The lines here and those that bench/run times.
+    fn every_line() -> Vec<Line> {
+        let folder = |name| format!("{}/{name}", env!("CARGO_MANIFEST_DIR"));
+        let lines = ["vectors", "../bench"].map(|name| all(&folder(name)));
+        lines.into_iter().flatten().collect()
+    }
+
+    #[test]
+    fn every_match_is_tidy_and_right() {
+        for line in every_line() {
+            let Line { n, table, said, .. } = line;
+            let Some(block) = line.block else { continue };
+            assert_eq!(check(n, &block), Answer::success(0), "n {n}: {said}");
+            let one = |row| evaluate(n, &block, row as u32) == Answer::success(1);
+            assert_eq!(table_of(n as usize, one), table, "n {n}: {said}");
+            assert_eq!(type_of(n, &block), typed(&said[..3]), "n {n}: {said}");
+        }
+    }
+
+    #[test]
+    fn only_matches_of_up_to_three_inputs_have_open_pins() {
+        for Line { n, said, block, .. } in every_line() {
+            let Some(block) = block else { continue };
+            let open = fields(number(&block)).contains(&OPEN);
+            assert_eq!(open, n < 4, "n {n}: {said}");
+        }
+    }
 }

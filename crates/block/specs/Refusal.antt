@@ -55,7 +55,7 @@ strayField n b = not (fieldsFit n b)
 abbrev pub outOfOrder : Block → Bool
 outOfOrder b = not (ordered (b .f .pins) && ordered (b .g .pins))
 
--- 8: a row that needs a 1 on an open pin is set
+-- 8: a row that needs a 0 on an open pin is set
 abbrev pub openRowSet : Block → Bool
 openRowSet b = not (rowsQuiet b)
 

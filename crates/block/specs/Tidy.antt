@@ -1,4 +1,4 @@
--- Pin fields, order and unread rows (document 01, "Ten bytes"). Assumes nothing.
+-- Pin fields, order and unread rows (document 01, "Ten bytes", with request 3). Assumes nothing.
 use Prim.Native.Nat.{ℕ, _/_, _%_, _^_}
 use mathlib.Core.Path.{_≡_}
 use mathlib.Core.Bool.{Bool, true, false, not, _&&_, _||_}
@@ -32,7 +32,7 @@ unfoldable pub ordered : List ℕ → Bool
 ordered [] = true
 ordered (pin ∷ pins) = followed pin pins
 
--- table row k needs on some open pin the level that an open pin does not have
+-- table row k needs on some open pin the level that an open pin does not have, a 0
 unfoldable pub unreadable : (pins : List ℕ) (k : ℕ) → Bool
 unreadable [] k = false
 unreadable (pin ∷ pins) k =

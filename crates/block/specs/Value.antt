@@ -8,9 +8,9 @@ use Rattle.bits.specs.Tests.{pick}
 use Rattle.block.specs.Table.{variableAt, tableRows, tableBit}
 use Rattle.block.specs.Block.{Lut, Block, isOpen}
 
--- the level of an open pin
+-- the level of an open pin: high by request 3, where document 01 has it low
 abbrev pub openLevel : ℕ
-openLevel = 0
+openLevel = 1
 
 -- what a pin reads in row r
 unfoldable pub pinValue : (pin r : ℕ) → ℕ

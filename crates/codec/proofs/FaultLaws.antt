@@ -1,18 +1,13 @@
--- The refusals 6, 7, 8 by what the tests found, and the masks of the rows that open pins leave
--- unread. Assumes nothing.
-use mathlib.Core.Path.{_≡_, refl, sym, ap, _∙_}
-use mathlib.Core.Bool.{Bool, true, false, not, _&&_, _||_, and-true}
-use mathlib.Core.List.{List, [], _∷_, _++_}
-use Prim.Native.Nat.{ℕ, _<_, _^_}
-use lib.Bits.{bitAnd}
-use lib.Dec.{eqb}
-use lib.ListN.{length}
-use Rattle.block.specs.Block.{Block, isOpen}
+-- The refusals 6, 7, 8 by what the tests found. Assumes nothing.
+use mathlib.Core.Path.{_≡_, ap, _∙_}
+use mathlib.Core.Bool.{Bool, true, false, _&&_, and-true}
+use mathlib.Core.List.{[], _∷_, _++_}
+use Prim.Native.Nat.{ℕ}
+use Rattle.block.specs.Block.{Block}
 use Rattle.bits.specs.Tests.{every}
 use Rattle.bits.proofs.ListLaws.{every-append}
-use Rattle.block.specs.Tidy.{fieldFits, fieldsFit, follows, ordered, quiet, rowsQuiet}
+use Rattle.block.specs.Tidy.{fieldFits, fieldsFit, follows, ordered, rowsQuiet}
 use Rattle.block.specs.Refusal.{tidyRefusal}
-use Rattle.block.proofs.TidyLaws.{quiet-none, quiet-pin, marks, mask-quiet}
 
 module _ (n : ℕ) (b : Block) where
   pub refuses-6 : fieldsFit n b ≡ false → 6 ≡ tidyRefusal n b
@@ -51,34 +46,3 @@ pub ordered-four : (a b c d : ℕ)
     → ordered (a ∷ b ∷ c ∷ d ∷ []) ≡ follows a b && (follows b c && follows c d)
 unfolding ordered
 ordered-four a b c d = ap (λ (q : Bool). follows a b && (follows b c && q)) (and-true (follows c d))
-
--- a pin's test by the mask of its rows, and the pins after it
-by-mask : (w rows mask pin : ℕ) (pins : List ℕ) → rows < 2 ^ w → marks w mask (length pins) ≡ true
-    → quiet w rows (pin ∷ pins) ≡ (not (isOpen pin) || eqb (bitAnd rows mask) 0) && quiet w rows pins
-by-mask w rows mask pin pins fits marked =
-    quiet-pin w rows pin pins
-    ∙ ap (λ (q : Bool). (not (isOpen pin) || q) && quiet w rows pins)
-    (sym (mask-quiet w rows mask (length pins) fits marked))
-
--- the masks of the pins that weigh 8, 4, 2, 1, and of H's direct pin
-pub four-masks : (rows a b c d : ℕ) → rows < 2 ^ 16
-    → quiet 16 rows (a ∷ b ∷ c ∷ d ∷ [])
-    ≡ (not (isOpen a) || eqb (bitAnd rows 0x00FF) 0)
-    && ((not (isOpen b) || eqb (bitAnd rows 0x0F0F) 0)
-    && ((not (isOpen c) || eqb (bitAnd rows 0x3333) 0) && (not (isOpen d) || eqb (bitAnd rows 0x5555) 0)))
-four-masks rows a b c d fits =
-    rw (
-      by-mask 16 rows 0x00FF a (b ∷ c ∷ d ∷ []) fits refl,
-      by-mask 16 rows 0x0F0F b (c ∷ d ∷ []) fits refl,
-      by-mask 16 rows 0x3333 c (d ∷ []) fits refl,
-      by-mask 16 rows 0x5555 d [] fits refl,
-      quiet-none 16 rows,
-      and-true (not (isOpen d) || eqb (bitAnd rows 0x5555) 0),
-    )
-
-pub direct-mask : (h pin : ℕ) → h < 2 ^ 8
-    → quiet 8 h (pin ∷ []) ≡ not (isOpen pin) || eqb (bitAnd h 0x55) 0
-direct-mask h pin fits =
-    by-mask 8 h 0x55 pin [] fits refl
-    ∙ ap (λ (q : Bool). (not (isOpen pin) || eqb (bitAnd h 0x55) 0) && q) (quiet-none 8 h)
-    ∙ and-true (not (isOpen pin) || eqb (bitAnd h 0x55) 0)

@@ -8,19 +8,17 @@ use Rattle.block.specs.Code.{blockOf}
 use Rattle.block.specs.Tidy.{Tidy}
 use Rattle.codec.specs.declared.Unpacked.{Unpacked}
 use Rattle.codec.specs.declared.Unpacked.the-variants as unpacked
-use Rattle.codec.specs.Ten.{unpackOf, FieldsOfFour}
+use Rattle.codec.specs.Ten.{unpackOf}
 use Rattle.codec.specs.Check.{checkRefusal}
 use Rattle.codec.specs.Answers.{unpackedOf, unpackAnswer}
 use Rattle.codec.proofs.UnpackLaws.{accepted}
 use Rattle.codec.proofs.CheckLaws.{accepted-of-none}
-use Rattle.codec.proofs.PackLaws.{fields-of-four}
 
 pub record Opened (n : ℕ) (s : List ℕ) (x : Parts) : Type 0 where
   pub none : checkRefusal n s ≡ 0
   pub parts : blockOf x ≡ unpackOf s
   pub within : n ≤ 9
   pub tidy : Tidy n (blockOf x)
-  pub small : FieldsOfFour x
 
 pub opened : (n : ℕ) (s : List ℕ) (u : Unpacked) (x : Parts) → u ≡ unpacked.Block x
     → unpackedOf u ≡ unpackAnswer n s → Opened n s x
@@ -33,5 +31,4 @@ opened n s u x e answered =
       parts = told .1;
       within = fine .within;
       tidy = tidy;
-      small = fields-of-four n x (fine .within) (tidy .fields);
     }

@@ -11,6 +11,10 @@ use Rattle.block.specs.Block.{Lut, Block}
 abbrev pub blockBytes : ℕ
 blockBytes = 10
 
+-- twenty hexadecimal digits as ten bytes
+abbrev pub ten : ℕ → List ℕ
+ten x = bytesOf (split 20 x)
+
 -- ten zero bytes
 abbrev pub tenZeros : List ℕ
 tenZeros = replicate blockBytes 0

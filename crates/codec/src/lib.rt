@@ -1,14 +1,11 @@
 // The ten bytes of a block: unpacked, checked and packed.
 ghost use mathlib.Core.Path.{_≡_};
-ghost use mathlib.Core.Bool.{not, _&&_, _||_};
+ghost use mathlib.Core.Bool.{_&&_};
 ghost use Prim.Native.Nat.{_+_, _/_, _%_, _^_, _<_};
-ghost use lib.Bits.{bitAnd};
-ghost use lib.Dec.{eqb};
 ghost use Rattle.bits.specs.Bits.{nibbles, joined};
 ghost use Rattle.bits.specs.Tests.{every};
-ghost use Rattle.block.specs.Block.{isOpen};
 ghost use Rattle.block.specs.Code.{lutOf, blockOf, zeroBlock};
-ghost use Rattle.block.specs.Tidy.{fieldFits, fieldsFit, follows, ordered, lutQuiet, rowsQuiet};
+ghost use Rattle.block.specs.Tidy.{fieldFits, fieldsFit, follows, ordered, rowsQuiet};
 ghost use Rattle.block.specs.Refusal.{tidyRefusal};
 ghost use Rattle.block.specs.Answer.{answered};
 ghost use Rattle.codec.specs.Ten.{lutAt, unpackOf, packOf, FieldsOfFour};
@@ -31,18 +28,6 @@ pub enum Unpacked {
     Block(Parts),
     Refused(Refusal),
 }
-
-// The rows, row 0 most significant, that need a 1 on the pin of weight 8, 4, 2, 1 of a four-pin
-// table, and on the direct pin of H.
-const NEEDS_8: u16 = 0x00FF;
-
-const NEEDS_4: u16 = 0x0F0F;
-
-const NEEDS_2: u16 = 0x3333;
-
-const NEEDS_1: u16 = 0x5555;
-
-const H_NEEDS_1: u16 = 0x55;
 
 // Sixteen rows from field i on.
 fn rows_at(s: &[u8], i: usize) -> u16
@@ -118,27 +103,12 @@ fn both_in_order(x: Parts) -> bool
     in_order(f) & in_order(g)
 }
 
-// Where the pin is open, no row that the mask marks is set.
-fn pin_quiet(pin: u8, rows: u16, mask: u16) -> bool
-    ensures { λ r. ⌜ r ≡ not (isOpen pin) || eqb (bitAnd rows mask) 0 ⌝ }
-{
-    (pin != OPEN) | (rows & mask == 0)
-}
-
-fn four_quiet(t: FourPin) -> bool
-    ensures { λ r. ⌜ r ≡ lutQuiet (lutOf t) ⌝ }
-{
-    pin_quiet(t.a, t.rows, NEEDS_8)
-        & (pin_quiet(t.b, t.rows, NEEDS_4)
-            & (pin_quiet(t.c, t.rows, NEEDS_2) & pin_quiet(t.d, t.rows, NEEDS_1)))
-}
-
 fn rows_quiet(x: Parts) -> bool
     ensures { λ r. ⌜ r ≡ rowsQuiet (blockOf x) ⌝ }
 {
     let f = x.f;
     let g = x.g;
-    four_quiet(f) & (four_quiet(g) & pin_quiet(x.direct, x.h as u16, H_NEEDS_1))
+    block::four_quiet(f) & (block::four_quiet(g) & block::direct_quiet(x.direct, x.h))
 }
 
 // The first of the refusals 6, 7, 8 that applies.

@@ -4,12 +4,10 @@
 // For each H, the first polarities that serve each component give the least F, then the least G.
 ghost use mathlib.Core.Path.{_≡_};
 ghost use mathlib.Core.Bool.{true, false, _&&_};
-ghost use mathlib.Core.List.{[], _∷_};
 ghost use Prim.Native.Nat.{ℕ, _-_, _^_, _<_, _≤_};
 ghost use lib.ListN.{length, getD};
 ghost use Rattle.bits.specs.Bits.{has, num, ofRows};
 ghost use Rattle.bits.specs.Tests.{some};
-ghost use Rattle.block.specs.Tidy.{quiet};
 ghost use Rattle.subsets.specs.Masks.{variablesIn};
 ghost use Rattle.wiring.specs.Wire.{reads};
 ghost use Rattle.wiring.specs.Test.{hRow, turned};
@@ -19,7 +17,6 @@ ghost use Rattle.contents.specs.Code.{AreAsked, flip, allowedBy, servesB
 ghost use Rattle.contents.specs.Code.{possibleBy, filledBy, withTable, leastOf};
 use block::MOST_INPUTS;
 use block::OPEN;
-use block::OPEN_LEVEL;
 
 // One more than the greatest contents: no contents.
 pub const NONE: u64 = 1099511627776;
@@ -134,15 +131,6 @@ fn wires_of(n: u8, t: &[u8], f: u16, g: u16, direct: u8) -> Wires
     }
 }
 
-// The direct pin's value. Bit 15 of the row is put at the level of an open pin, whose field is 15.
-fn reads(direct: u8, row: u16) -> u8
-    requires { ⌜ direct < 16 ⌝ }
-    ensures { λ r. ⌜ (r ≡ num (reads direct row)) × (r < 2) ⌝ }
-{
-    let level = OPEN_LEVEL as u16;
-    (((row % 32768 + level * 32768) >> direct) % 2) as u8
-}
-
 // The value of the shared variables, as the row of F that they select alone.
 fn component(w: Wires, row: u16) -> u8
     ensures { λ r. ⌜ (r ≡ componentBy w row) × (r < 16) ⌝ }
@@ -160,17 +148,16 @@ fn changed(s: Side, row: u16) -> u8
 
 // The row of H that a row selects where every polarity is 0.
 fn slot(w: Wires, row: u16) -> u8
-    requires { ⌜ w .direct < 16 ⌝ }
     ensures { λ r. ⌜ (r ≡ slotBy w row) × (r < 8) ⌝ }
 {
     let f = w.f;
     let g = w.g;
-    4 * changed(f, row) + 2 * changed(g, row) + reads(w.direct, row)
+    4 * changed(f, row) + 2 * changed(g, row) + block::pin_value(w.direct, row)
 }
 
 // What the rows ask of H.
 fn demands(n: u8, t: &[u8], w: Wires) -> Asked
-    requires { ⌜ (n ≤ 9) × (w .direct < 16) ⌝ }
+    requires { ⌜ n ≤ 9 ⌝ }
     ensures { λ r. ⌜ AreAsked (now (t .entry)) w (2 ^ n) r ⌝ }
 {
     let end: u16 = 1 << n;
@@ -287,11 +274,10 @@ fn possible(w: Wires, a: Asked) -> bool
 
 // The direct pin's value where the table carries its variable, else 0.
 fn level(w: Wires, s: Side, row: u16) -> u8
-    requires { ⌜ w .direct < 16 ⌝ }
     ensures { λ r. ⌜ (r ≡ num (s .bridged && reads (w .direct) row)) × (r < 2) ⌝ }
 {
     if s.bridged {
-        return reads(w.direct, row);
+        return block::pin_value(w.direct, row);
     }
     0
 }
@@ -299,7 +285,7 @@ fn level(w: Wires, s: Side, row: u16) -> u8
 // Row x of a table. Of a component's polarities, bit `at` is the table's where the direct pin is 0, and
 // the bit below it where the pin is 1.
 fn filled(w: Wires, s: Side, poles: [u8; 16], at: u8, x: u8) -> bool
-    requires { ⌜ (0 < at) × (at < 8) × (x < 16) × (w .direct < 16) ⌝ }
+    requires { ⌜ (0 < at) × (at < 8) × (x < 16) ⌝ }
     ensures { λ r. ⌜ r ≡ filledBy w s (λ c. getD poles c 0) at x ⌝ }
 {
     let row = rows::place(s.key, x);
@@ -313,7 +299,7 @@ fn filled(w: Wires, s: Side, poles: [u8; 16], at: u8, x: u8) -> bool
 
 // The sixteen rows of F, or of G, row 0 in the highest bit.
 fn table(w: Wires, s: Side, poles: [u8; 16], at: u8) -> u64
-    requires { ⌜ (0 < at) × (at < 8) × (w .direct < 16) ⌝ }
+    requires { ⌜ (0 < at) × (at < 8) ⌝ }
     ensures { λ r. ⌜ (r ≡ ofRows 16 (filledBy w s (λ c. getD poles c 0) at)) × (r < 65536) ⌝ }
 {
     let mut found: u64 = 0;
@@ -323,20 +309,11 @@ fn table(w: Wires, s: Side, poles: [u8; 16], at: u8) -> u64
     found
 }
 
-// Whether the rows of H that need the level which an open direct pin does not have are 0.
-fn silent(direct: u8, h: u8) -> bool
-    ensures { λ r. ⌜ r ≡ quiet 8 h (direct ∷ []) ⌝ }
-{
-    let mask = DIRECT_1 * (OPEN_LEVEL + 1);
-    (direct != OPEN) | (h & mask == 0)
-}
-
 // The contents with table H, or NONE.
 fn with_table(w: Wires, a: Asked, h: u8) -> u64
-    requires { ⌜ w .direct < 16 ⌝ }
     ensures { λ r. ⌜ r ≡ withTable w a h ⌝ }
 {
-    if !silent(w.direct, h) {
+    if !block::direct_quiet(w.direct, h) {
         return NONE;
     }
     let c = choices(w, a, h);
@@ -351,7 +328,6 @@ fn with_table(w: Wires, a: Asked, h: u8) -> u64
 
 // The least contents over all tables H.
 fn smallest(w: Wires, a: Asked) -> u64
-    requires { ⌜ w .direct < 16 ⌝ }
     ensures { λ r. ⌜ r ≡ leastOf noContents (withTable w a) 256 ⌝ }
 {
     let mut best: u64 = NONE;

@@ -16,7 +16,8 @@ use Rattle.codec.specs.Order.{comesBefore}
 use Rattle.codec.specs.Check.{noRoom}
 
 -- A block realises a table of n inputs if it gives that table's value on every one of the 2^n rows.
--- Any block of the device counts: its nine fields are below n or 15, in any order, repeats allowed.
+-- Any block of the device counts: its nine fields are below n or 15, in any order, repeats allowed;
+-- open pins are held high.
 pub record Realises (n : ℕ) (t : List ℕ) (b : Block) : Type 0 where
   pub device : Device b
   pub fields : fieldsFit n b ≡ true

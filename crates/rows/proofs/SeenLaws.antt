@@ -1,40 +1,14 @@
--- What pins see of a row, and the row that shows a table row to them, as the code adds them up.
--- Assumes nothing.
-use mathlib.Core.Path.{_≡_, refl, sym, ap, ap₂, _∙_}
+-- The row that shows a table row to pins, as the code adds it up. Assumes nothing.
+use mathlib.Core.Path.{_≡_, refl, sym, ap₂, _∙_}
 use mathlib.Core.Bool.{Bool, true, false, _&&_, _||_, or-false}
 use mathlib.Core.List.{[], _∷_}
-use Prim.Native.Nat.{ℕ, _+_, _*_, _/_, _%_, _^_, _<_}
+use Prim.Native.Nat.{ℕ, _*_, _%_, _^_}
 use native.Mathlib.Omega.{arith}
 use lib.Dec.{eqb}
 use lib.Bits.{bitOr}
-use borrow.Author.Tests.{eqb-true, eqb-false}
-use Rattle.bits.specs.Bits.{bit, has, num, ofBits}
-use Rattle.bits.proofs.SearchLaws.{byBool}
-use Rattle.bits.proofs.BitLaws.{bit-low, has-low, has-or, has-moved, has-ofBits, ofBits-lt, same-number}
-use Rattle.block.specs.Value.{openLevel, pinValue, selected}
+use Rattle.bits.specs.Bits.{has, num, ofBits}
+use Rattle.bits.proofs.BitLaws.{has-low, has-or, has-moved, has-ofBits, ofBits-lt, same-number}
 use Rattle.wiring.specs.Wire.{shows, shown}
-
--- with the level of an open pin in bit 15 of the row, an open pin reads like any other
-pub reads-bit : (pin r : ℕ) → pin < 16 → (r % 2 ^ 15 + openLevel * 32768) / 2 ^ pin % 2 ≡ pinValue pin r
-unfolding pinValue
-reads-bit pin r l =
-    byBool (eqb pin 15)
-    (λ e. let same = eqb-true pin 15 e in rw (e, same) (omega arith))
-    (λ e.
-    let other = eqb-false pin 15 e in
-    rw e
-    (sym (bit-low 15 (r % 2 ^ 15 + openLevel * 32768) pin (omega arith))
-    ∙ ap (λ (x : ℕ). bit x pin) same-low
-    ∙ bit-low 15 r pin (omega arith)))
-  where
-    same-low : (r % 2 ^ 15 + openLevel * 32768) % 2 ^ 15 ≡ r % 2 ^ 15
-    same-low = omega arith
-
-pub selects : (a b c d r : ℕ)
-    → 8 * pinValue a r + 4 * pinValue b r + 2 * pinValue c r + pinValue d r
-    ≡ selected (a ∷ b ∷ c ∷ d ∷ []) r
-unfolding selected
-selects a b c d r = omega arith
 
 module _ (a b c d x : ℕ) where
   abbrev raised : ℕ

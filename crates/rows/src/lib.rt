@@ -1,12 +1,11 @@
 // What a truth table holds at a row, and what four pins see of a row. Four pins are one number of
 // four fields, the first pin in the highest.
 ghost use mathlib.Core.Path.{_≡_};
-ghost use Prim.Native.Nat.{_<_, _*_, _^_};
+ghost use Prim.Native.Nat.{_<_, _*_, _/_, _%_, _^_};
 ghost use Rattle.bits.specs.Bits.{has, split, num};
 ghost use Rattle.block.specs.Value.{pinValue, selected};
 ghost use Rattle.subsets.specs.Masks.{keyOf};
 ghost use Rattle.wiring.specs.Wire.{truth, shown};
-use block::OPEN_LEVEL;
 
 // Whether the table is 1 at a row; 0 past its end.
 pub fn truth(t: &[u8], row: u16) -> bool
@@ -33,21 +32,20 @@ pub fn key_of(set: u16) -> u16
     key
 }
 
-// Bit 15 of the row is put at the level of an open pin, whose field is 15.
-fn pin_value(row: u16, pin: u16) -> u8
-    requires { ⌜ pin < 16 ⌝ }
-    ensures { λ r. ⌜ (r ≡ pinValue pin row) × (r < 2) ⌝ }
+// What a pin reads; its field stands k bits above the units bit of the key.
+fn seen(key: u16, k: u16, row: u16) -> u8
+    requires { ⌜ k < 16 ⌝ }
+    ensures { λ r. ⌜ (r ≡ pinValue (key / 2 ^ k % 16) row) × (r < 2) ⌝ }
 {
-    let level = OPEN_LEVEL as u16;
-    (((row % 32768 + level * 32768) >> pin) % 2) as u8
+    block::pin_value(((key >> k) % 16) as u8, row)
 }
 
 // The table row that the four pins select.
 pub fn select(key: u16, row: u16) -> u8
     ensures { λ r. ⌜ (r ≡ selected (split 4 key) row) × (r < 16) ⌝ }
 {
-    let high = 8 * pin_value(row, key / 4096) + 4 * pin_value(row, key / 256 % 16);
-    high + 2 * pin_value(row, key / 16 % 16) + pin_value(row, key % 16)
+    let high = 8 * seen(key, 12, row) + 4 * seen(key, 8, row);
+    high + 2 * seen(key, 4, row) + seen(key, 0, row)
 }
 
 // Bit k of x, moved to the pin's variable.

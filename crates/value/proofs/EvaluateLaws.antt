@@ -2,6 +2,7 @@
 use mathlib.Core.Path.{_≡_, refl, sym, ap, _∙_}
 use mathlib.Core.List.{List, [], _∷_}
 use Prim.Native.Nat.{ℕ, _<_, _≤_}
+use lib.Pow.{pow-mono}
 use borrow.Author.Tests.{lt-ltb, le-ltb}
 use Rattle.block.specs.declared.Refusal.{Refusal}
 use Rattle.block.specs.Table.{tableRows}
@@ -17,6 +18,9 @@ use Rattle.value.specs.declared.Evaluated.the-variants.{Bit, Refused}
 use Rattle.value.specs.Evaluate.{Evaluates}
 use Rattle.value.specs.Evaluate.{noSuchRow, rowRefusal, evaluateRefusal, evaluatedOf}
 use Rattle.value.specs.Evaluate.{evaluateAnswer}
+
+pub rows-few : (n : ℕ) → n ≤ 9 → tableRows n ≤ 512
+rows-few n = pow-mono {j = 9}
 
 module _ (n row v : ℕ) where
   pub refuses-13 : tableRows n ≤ row → answer 13 0 ≡ answered (rowRefusal n row) 0 v

@@ -1,20 +1,13 @@
 -- Values as the code adds them up. Assumes nothing.
 use mathlib.Core.Path.{_≡_, ap}
-use mathlib.Core.List.{[], _∷_}
 use Prim.Native.Nat.{ℕ, _+_, _-_, _*_, _/_, _^_}
-use native.Mathlib.Omega.{arith}
 use lib.Bits.{bitAnd, and-mask}
 use Rattle.bits.specs.Bits.{rowOf}
 use Rattle.block.specs.declared.FourPin.{FourPin}
 use Rattle.block.specs.declared.Parts.{Parts}
 use Rattle.block.specs.Code.{lutOf, blockOf}
-use Rattle.block.specs.Value.{pinValue, selected, lutValue, hValue, blockValue}
-
--- four pins weigh 8, 4, 2, 1
-pub four-weights : (r a b c d : ℕ)
-    → 8 * pinValue a r + 4 * pinValue b r + 2 * pinValue c r + pinValue d r ≡ selected (a ∷ b ∷ c ∷ d ∷ []) r
-unfolding selected
-four-weights r a b c d = omega arith
+use Rattle.block.specs.Value.{pinValue, lutValue, hValue, blockValue}
+use Rattle.block.proofs.PinLaws.{four-weights}
 
 pub lut-row : (t : FourPin) (r : ℕ)
     → rowOf 16 (t .rows)

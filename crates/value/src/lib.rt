@@ -3,13 +3,10 @@ ghost use mathlib.Core.Path.{_≡_};
 ghost use Prim.Native.Nat.{_<_, _≤_};
 ghost use Rattle.bits.specs.Bits.{rowOf};
 ghost use Rattle.block.specs.Code.{lutOf, blockOf};
-ghost use Rattle.block.specs.Value.{pinValue, lutValue, blockValue};
+ghost use Rattle.block.specs.Value.{lutValue, blockValue};
 ghost use Rattle.block.specs.Answer.{answered};
-ghost use Rattle.codec.specs.Ten.{FourBits, FieldsOfFour};
 ghost use Rattle.value.specs.Evaluate.{rowRefusal, evaluatedOf, Evaluates};
 use block::FourPin;
-use block::OPEN;
-use block::OPEN_LEVEL;
 use block::Parts;
 use block::Refusal;
 use codec::Unpacked;
@@ -17,16 +14,6 @@ use codec::Unpacked;
 pub enum Evaluated {
     Bit(u8),
     Refused(Refusal),
-}
-
-fn pin_value(row: u32, pin: u8) -> u8
-    requires { ⌜ pin < 16 ⌝ }
-    ensures { λ r. ⌜ (r ≡ pinValue pin row) × (r < 2) ⌝ }
-{
-    if pin == OPEN {
-        return OPEN_LEVEL;
-    }
-    ((row >> pin) & 1) as u8
 }
 
 // Row k of sixteen.
@@ -37,33 +24,31 @@ fn row_of(rows: u16, k: u8) -> u8
     ((rows >> (15 - k)) & 1) as u8
 }
 
-fn lut_value(t: FourPin, row: u32) -> u8
-    requires { ⌜ FourBits t ⌝ }
+fn lut_value(t: FourPin, row: u16) -> u8
     ensures { λ r. ⌜ (r ≡ lutValue (lutOf t) row) × (r < 2) ⌝ }
 {
-    let high = 8 * pin_value(row, t.a) + 4 * pin_value(row, t.b);
-    let k = high + 2 * pin_value(row, t.c) + pin_value(row, t.d);
+    let high = 8 * block::pin_value(t.a, row) + 4 * block::pin_value(t.b, row);
+    let k = high + 2 * block::pin_value(t.c, row) + block::pin_value(t.d, row);
     row_of(t.rows, k)
 }
 
-fn block_value(x: Parts, row: u32) -> u8
-    requires { ⌜ FieldsOfFour x ⌝ }
+fn block_value(x: Parts, row: u16) -> u8
     ensures { λ r. ⌜ r ≡ blockValue (blockOf x) row ⌝ }
 {
     let f = x.f;
     let g = x.g;
-    let k = 4 * lut_value(f, row) + 2 * lut_value(g, row) + pin_value(row, x.direct);
+    let k = 4 * lut_value(f, row) + 2 * lut_value(g, row) + block::pin_value(x.direct, row);
     (x.h >> (7 - k)) & 1
 }
 
 // The value at a row below 2 to the n.
 fn value_at(n: u8, x: Parts, row: u32) -> Evaluated
-    requires { ⌜ (n ≤ 9) × FieldsOfFour x ⌝ }
+    requires { ⌜ n ≤ 9 ⌝ }
     ensures { λ r. ⌜ evaluatedOf r ≡ answered (rowRefusal n row) 0 (blockValue (blockOf x) row) ⌝ }
 {
     let rows: u32 = 1 << n;
     if row < rows {
-        return Evaluated::Bit(block_value(x, row));
+        return Evaluated::Bit(block_value(x, row as u16));
     }
     Evaluated::Refused(Refusal::R13)
 }

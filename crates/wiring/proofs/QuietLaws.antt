@@ -15,7 +15,8 @@ use Rattle.bits.proofs.RowLaws.{isRow, ofRows-lt, isRow-ofRows, rowOf-ofRows}
 use Rattle.block.specs.Block.{isOpen}
 use Rattle.block.specs.Value.{openLevel}
 use Rattle.block.specs.Tidy.{unreadable, quiet}
-use Rattle.wiring.proofs.ReadLaws.{pinValue-num, pinValue-open}
+use Rattle.block.proofs.PinLaws.{pinValue-open}
+use Rattle.wiring.proofs.ReadLaws.{pinValue-num}
 use Rattle.wiring.proofs.ShownLaws.{Ends, ends-cons}
 
 -- a table row that needs of an open pin the level it does not have is selected by no row

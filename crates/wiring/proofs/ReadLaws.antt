@@ -16,7 +16,7 @@ use Rattle.bits.proofs.ListLaws.{at-member, every-member}
 use Rattle.bits.proofs.BitLaws.{num-has}
 use Rattle.block.specs.Block.{openField, isOpen}
 use Rattle.block.specs.Table.{mostInputs}
-use Rattle.block.specs.Value.{openLevel, pinValue}
+use Rattle.block.specs.Value.{pinValue}
 use Rattle.block.specs.Tidy.{fieldFits}
 use Rattle.block.specs.Kind.{carries}
 use Rattle.wiring.specs.Wire.{reads}
@@ -31,10 +31,6 @@ carried-lt n pin fit carried =
 pub pinValue-num : (pin r : ℕ) → pinValue pin r ≡ num (reads pin r)
 unfolding reads pinValue has
 pinValue-num pin r = byBool (isOpen pin) (λ e. rw e) (λ e. rw e (sym (num-has r pin)))
-
-pub pinValue-open : (pin r : ℕ) → isOpen pin ≡ true → pinValue pin r ≡ openLevel
-unfolding pinValue
-pinValue-open pin r opened = rw opened
 
 reads-open : (pin r s : ℕ) → isOpen pin ≡ true → reads pin r ≡ reads pin s
 unfolding reads pinValue

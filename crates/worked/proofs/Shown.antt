@@ -16,7 +16,7 @@ use Rattle.block.proofs.LetterLaws.{letterCode-injective}
 use Rattle.codec.specs.Ten.{unpackOf}
 use Rattle.codec.specs.Check.{checkRefusal}
 use Rattle.codec.proofs.CheckLaws.{accepted-of-none}
-use Rattle.worked.specs.Worked.{Example, matches, noTable, noBlock, Holds, AllHold}
+use Rattle.worked.specs.Worked.{Example, matches, noTable, checks, Holds, AllHold}
 use Rattle.worked.specs.Worked.{examples}
 
 abbrev agrees : List ℕ → List ℕ → ℕ → Bool
@@ -29,7 +29,7 @@ test (matches n table letter digit s) =
     && (eqb (letterCode (letterOf (unpackOf s))) (letterCode letter)
     && (eqb (digitOf (unpackOf s)) digit && below (agrees table s) (tableRows n))))
 test (noTable n table number) = eqb (tableRefusal n table) number
-test (noBlock n s number) = eqb (checkRefusal n s) number
+test (checks n s number) = eqb (checkRefusal n s) number
 
 abbrev tests : List Example → Bool
 tests [] = true
@@ -62,7 +62,7 @@ holds (matches n table letter digit s) h =
       };
     }
 holds (noTable n table number) h = eqb-true (tableRefusal n table) number h
-holds (noBlock n s number) h = eqb-true (checkRefusal n s) number h
+holds (checks n s number) h = eqb-true (checkRefusal n s) number h
 
 all-hold : (es : List Example) → tests es ≡ true → AllHold es
 all-hold [] h = tt

@@ -1,9 +1,10 @@
--- The examples P1 to P12 of document 01, and what each says. Assumes nothing.
+-- The examples P1 to P12 of document 01, P1 and P12 as request 3 has them, and what each says. Assumes
+-- nothing.
 use Prim.Native.Nat.{ℕ, zero, suc, _+_, _-_, _*_, _%_, _^_}
 use mathlib.Core.Path.{_≡_}
 use mathlib.Core.List.{List, [], _∷_}
 use lib.Dec.{eqb}
-use Rattle.bits.specs.Bits.{bit, split, bytesOf}
+use Rattle.bits.specs.Bits.{bit}
 use Rattle.bits.specs.Tests.{pick, count}
 use Rattle.block.specs.declared.Letter.{Letter}
 use Rattle.block.specs.declared.Letter.the-variants.{A, C}
@@ -12,15 +13,15 @@ use Rattle.block.specs.Value.{Computes}
 use Rattle.block.specs.Tidy.{Tidy}
 use Rattle.block.specs.Kind.{letterOf, digitOf}
 use Rattle.block.specs.Refusal.{tableRefusal}
-use Rattle.codec.specs.Ten.{unpackOf}
+use Rattle.codec.specs.Ten.{ten, unpackOf}
 use Rattle.codec.specs.Check.{checkRefusal}
 
--- n and a table, with the type and the ten bytes of its block; or with the number of a refusal: of
--- the table, or of ten bytes
+-- n and a table, with the type and the ten bytes of its block, or with the number of its refusal; or n
+-- and ten bytes, with the number that checking gives, 0 if they pass
 pub data Example : Type 0 where
   matches : ℕ → List ℕ → Letter → ℕ → List ℕ → Example
   noTable : ℕ → List ℕ → ℕ → Example
-  noBlock : ℕ → List ℕ → ℕ → Example
+  checks : ℕ → List ℕ → ℕ → Example
 
 -- the ten bytes are accepted and hold a tidy block of that type, which computes that table on every row
 pub record Shows (n : ℕ) (table : List ℕ) (letter : Letter) (digit : ℕ) (s : List ℕ) : Type 0 where
@@ -34,15 +35,11 @@ pub record Shows (n : ℕ) (table : List ℕ) (letter : Letter) (digit : ℕ) (s
 abbrev pub Holds : Example → Type 0
 Holds (matches n table letter digit s) = Shows n table letter digit s
 Holds (noTable n table number) = tableRefusal n table ≡ number
-Holds (noBlock n s number) = checkRefusal n s ≡ number
+Holds (checks n s number) = checkRefusal n s ≡ number
 
 abbrev pub AllHold : List Example → Type 0
 AllHold [] = Unit
 AllHold (e ∷ es) = Holds e × AllHold es
-
--- twenty hexadecimal digits as ten bytes
-abbrev pub ten : ℕ → List ℕ
-ten x = bytesOf (split 20 x)
 
 -- a byte of eight rows from row r on, and so many bytes
 abbrev pub rowsFrom : (ℕ → ℕ) → ℕ → ℕ → ℕ
@@ -65,10 +62,10 @@ parity r = count (λ i. eqb (bit r i) 1) mostInputs % 2
 abbrev pub andOf : ℕ → ℕ → ℕ
 andOf n r = pick (eqb r (tableRows n - 1)) 1 0
 
--- P1 to P12, in order
+-- P1 to P12, in order, and the bytes that P1 had with open pins low
 unfoldable pub examples : List Example
 examples =
-    matches 0 (0x80 ∷ []) A 0 (ten 0xFFFFFFFFF00000000800)
+    matches 0 (0x80 ∷ []) A 0 (ten 0xFFFFFFFFF00000000400)
     ∷ matches 0 (0x00 ∷ []) A 0 (ten 0xFFFFFFFFF00000000000)
     ∷ matches 1 (0x40 ∷ []) C 0 (ten 0x0FFF0FFF000000000400)
     ∷ matches 5 (0x00 ∷ 0x00 ∷ 0xFF ∷ 0xFF ∷ []) A 4 (ten 0x01230123400000000400)
@@ -77,7 +74,8 @@ examples =
     ∷ matches 9 (tableOf 9 parity) A 0 (ten 0x01234567869966996690)
     ∷ matches 9 (tableOf 9 (andOf 9)) A 0 (ten 0x01234567800010001010)
     ∷ noTable 2 (0x81 ∷ []) 3
-    ∷ noBlock 1 (ten 0x1FFFFFFFF00000000000) 6
-    ∷ noBlock 2 (ten 0x10FFFFFFF00000000000) 7
-    ∷ noBlock 0 (ten 0xFFFFFFFFF00000000400) 8
+    ∷ checks 1 (ten 0x1FFFFFFFF00000000000) 6
+    ∷ checks 2 (ten 0x10FFFFFFF00000000000) 7
+    ∷ checks 0 (ten 0xFFFFFFFFF00000000400) 0
+    ∷ checks 0 (ten 0xFFFFFFFFF00000000800) 8
     ∷ []

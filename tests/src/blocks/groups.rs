@@ -1,6 +1,7 @@
 //! The groups of blocks and parts: how those of each are made, and what is asked about them.
 
 use crate::blemish::BLEMISHES;
+use crate::block::computed;
 use crate::blocks::judge::{Judge, Question};
 use crate::blocks::parts::{Parts, DAMAGES};
 use crate::blocks::second::typed;
@@ -62,6 +63,8 @@ fn examples(judge: &mut Judge) {
     for (n, block, number) in document::refused_blocks() {
         known(judge, n, &block, Question::Check, Answer::refusal(number));
     }
+    let (n, block) = document::passing_block();
+    known(judge, n, &block, Question::Check, Answer::success(0));
 }
 
 /// A block of the vectors: as it stands, for every n, and in every length up to twelve bytes.
@@ -99,17 +102,62 @@ fn every_four_fields(judge: &mut Judge) {
     }
 }
 
-/// Every single row set, for every count of pins that F and G carry, the direct pin open or not.
+/// The fields of four pins that carry a set, variable i as bit i: in order, then open pins.
+fn four(set: u16) -> [u8; 4] {
+    let mut carried = (0..9).filter(|variable| set >> variable & 1 == 1);
+    std::array::from_fn(|_| carried.next().unwrap_or(OPEN))
+}
+
+/// Pins in order: every count that F carries with every count of G, and every set of variables on
+/// both; the direct pin open or not.
+fn wirings() -> Vec<[u8; 9]> {
+    let counts = (0..25).map(|pins| [(1 << (pins % 5)) - 1, (1 << (pins / 5)) - 1]);
+    let sets = (0..512u16).filter(|set| set.count_ones() <= 4);
+    let mut wirings = vec![];
+    for sets in counts.chain(sets.map(|set| [set; 2])) {
+        for direct in [0, OPEN] {
+            let mut fields = [direct; 9];
+            fields[..8].copy_from_slice(&sets.map(four).concat());
+            wirings.push(fields);
+        }
+    }
+    wirings
+}
+
+/// Every single row set, of F, of G or of H.
+fn single_rows() -> impl Iterator<Item = (u16, u16, u8)> {
+    let rows = (0..40).map(|row| 1u64 << row);
+    rows.map(|set| ((set >> 24) as u16, (set >> 8) as u16, set as u8))
+}
+
+/// Whether some row of a function reads the single row that is set: there the value is 1, with
+/// other tables that let the row through.
+fn is_read(fields: &[u8; 9], tables: (u16, u16, u8)) -> bool {
+    let through = match tables {
+        (0, 0, h) => vec![(0, 0, h), (0, !0, h), (!0, 0, h), (!0, !0, h)],
+        (0, g, _) => vec![(0, g, 0x33)],
+        (f, _, _) => vec![(f, 0, 0x0F)],
+    };
+    let mut blocks = through.iter().map(|all| bytes(joined(fields, *all)));
+    blocks.any(|block| computed(9, &block) != [0; 64])
+}
+
+/// What checking answers for pins in order and a single row: 8 if nothing reads it, since with such
+/// pins only an open one can leave a row unread.
+fn check_of_single(fields: &[u8; 9], tables: (u16, u16, u8)) -> Answer {
+    match is_read(fields, tables) {
+        true => Answer::success(0),
+        false => Answer::refusal(8),
+    }
+}
+
+/// Every single row set, for every wiring.
 fn every_row(judge: &mut Judge) {
-    for pins in 0..50 {
-        let (f, g, direct) = (pins % 5, pins / 5 % 5, [0, OPEN][pins / 25]);
-        let four =
-            |carried: usize| (0..4).map(move |pin| if pin < carried { pin as u8 } else { OPEN });
-        let fields: Vec<u8> = four(f).chain(four(g)).chain([direct]).collect();
-        let fields: [u8; 9] = fields.try_into().expect("nine fields");
-        for row in 0..40u64 {
-            let set = 1 << row;
-            let tables = ((set >> 24) as u16, (set >> 8) as u16, set as u8);
+    for fields in wirings() {
+        for tables in single_rows() {
+            let answer = check_of_single(&fields, tables);
+            let block = bytes(joined(&fields, tables));
+            known(judge, 9, &block, Question::Check, answer);
             packed_and_asked(judge, fields, tables);
         }
     }
@@ -132,6 +180,40 @@ fn evaluated(judge: &mut Judge, random: &mut Random) {
     let block = either(&below(n), random);
     let rows: Vec<u32> = (0..1 << n).collect();
     judge.block(n, &block, &rows);
+}
+
+/// The block that computes with open pins low what a tidy block computes with them high: the open
+/// pins of a table are its last, and each row that is set moves to where they are 0.
+fn lowered(n: u8, block: &[u8; 10]) -> [u8; 10] {
+    let Parts { fields, tables, .. } = Parts::of(n, block);
+    let (f, g, h) = tables;
+    let open = |pins: &[u8]| pins.iter().filter(|pin| **pin == OPEN).count();
+    let moved = |rows: u16, pins: &[u8]| rows << ((1 << open(pins)) - 1);
+    let h = h << open(&fields[8..]);
+    bytes(joined(
+        &fields,
+        (moved(f, &fields[..4]), moved(g, &fields[4..8]), h),
+    ))
+}
+
+/// A block made for some n with open pins low: it is refused with 8, or it is one that computes the
+/// same with them high.
+fn made_low(judge: &mut Judge, random: &mut Random) {
+    let n = random.below(10) as u8;
+    let high = either(&below(n), random);
+    let block = lowered(n, &high);
+    let table = computed(n as usize, &high);
+    let answer = |part| match block == high {
+        true => Answer::success(part),
+        false => Answer::refusal(8),
+    };
+    known(judge, n, &block, Question::Check, answer(0));
+    for row in 0..1 << n {
+        let bit = table[row / 8] >> (7 - row % 8) & 1;
+        let value = answer(bit as u64);
+        known(judge, n, &block, Question::Evaluate(row as u32), value);
+    }
+    judge.parts(&Parts::of(n, &block));
 }
 
 /// Rows within a table of n inputs and beyond it.
@@ -203,6 +285,10 @@ pub fn all(judge: &mut Judge, vectors: &[Line], seed: u64) {
         evaluated(judge, &mut random);
     }
     judge.tally.group_done("at every row");
+    for _ in 0..EVALUATED {
+        made_low(judge, &mut random);
+    }
+    judge.tally.group_done("made with open pins low");
     for _ in 0..DAMAGED {
         damaged_block(judge, &mut random);
     }
@@ -211,4 +297,23 @@ pub fn all(judge: &mut Judge, vectors: &[Line], seed: u64) {
         damaged_parts(judge, &mut random);
     }
     judge.tally.group_done("parts, damaged");
+}
+
+#[cfg(test)]
+mod tests {
+    use super::{check_of_single, single_rows, wirings};
+    use crate::blocks::second::check;
+    use crate::ten::{bytes, joined};
+
+    #[test]
+    fn the_second_check_refuses_the_rows_that_nothing_reads() {
+        assert_eq!(wirings().len(), 562);
+        for fields in wirings() {
+            for tables in single_rows() {
+                let given = check(9, &bytes(joined(&fields, tables)));
+                let answer = check_of_single(&fields, tables);
+                assert_eq!(given, answer, "{fields:?}, {tables:04X?}");
+            }
+        }
+    }
 }

@@ -107,7 +107,7 @@ pub fn pack(parts: &Parts, room: usize) -> Result<[u8; 10], u8> {
 #[cfg(test)]
 mod tests {
     use super::*;
-    use crate::document::{matches, refused_blocks};
+    use crate::document::{matches, passing_block, refused_blocks};
     use crate::table::table_of;
 
     #[test]
@@ -120,6 +120,14 @@ mod tests {
             assert_eq!(type_of(n, block), typed(example.kind));
             assert_eq!(pack(&Parts::of(n, block), 10), Ok(*block));
         }
+    }
+
+    #[test]
+    fn take_the_bytes_of_p12() {
+        let (n, block) = passing_block();
+        assert_eq!(check(n, &block), Answer::success(0));
+        assert_eq!(evaluate(n, &block, 0), Answer::success(1));
+        assert_eq!(pack(&Parts::of(n, &block), 10), Ok(block));
     }
 
     #[test]

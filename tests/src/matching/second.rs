@@ -1,15 +1,15 @@
 //! A second matcher, made only to check the product's.
 //!
-//! It takes document 01 at its word. Tidy wirings are tried in byte order: F's pins, then G's,
-//! then the direct pin. On each wiring every H is tried, and for each H the 16 rows of F and the
-//! 16 of G are unknown bits. A row of the function reads one bit of F and one of G; H and the
-//! value wanted there shut out some of the four pairs that these two can hold. So every demand is
-//! about two bits, the problem known as 2-SAT.
+//! It takes document 01 with request 3 at its word. Tidy wirings are tried in byte order: F's
+//! pins, then G's, then the direct pin. On each wiring every H is tried, and for each H the 16
+//! rows of F and the 16 of G are unknown bits. A row of the function reads one bit of F and one of
+//! G; H and the value wanted there shut out some of the four pairs that these two can hold. So
+//! every demand is about two bits, the problem known as 2-SAT.
 //!
 //! It is solved bit by bit, in byte order, 0 before 1: settle the bit, and all that follows from
 //! it. If nothing clashes, the bit may stay: a demand on a settled bit is then met, and the
 //! others are still those of the start. If both values clash, no contents serve this H. A bit
-//! that no demand names becomes 0, so rows that need a 1 on an open pin hold 0 as tidy blocks
+//! that no demand names becomes 0, so rows that need a 0 on an open pin hold 0 as tidy blocks
 //! must.
 //!
 //! Only a wiring that misses a variable on which the function depends is skipped.
@@ -17,8 +17,11 @@
 /// The field of an open pin.
 const OPEN: usize = 15;
 
-/// The rows of H that need a 1 on the direct pin.
-const DIRECT_ROWS: u8 = 0x55;
+/// What an open pin reads.
+const OPEN_READS: usize = 1;
+
+/// The rows of H that need a 0 on the direct pin.
+const DIRECT_ROWS: u8 = 0xAA;
 
 /// One tidy choice of pins for a four-pin table.
 struct Choice {
@@ -61,10 +64,10 @@ fn fields_of(set: usize) -> u16 {
     fields.fold(0, |before, field| before << 4 | field as u16)
 }
 
-/// What a pin reads at a row: its variable's bit, or 0 if it is open.
+/// What a pin reads at a row: its variable's bit, unless it is open.
 fn pin_reads(field: usize, row: usize) -> usize {
     if field == OPEN {
-        0
+        OPEN_READS
     } else {
         row >> field & 1
     }
@@ -206,6 +209,7 @@ fn bytes(f: u16, g: u16, direct: usize, tables: [u16; 2], h: u8) -> [u8; 10] {
 mod tests {
     use super::Second;
     use crate::document::{matches, refused_tables};
+    use crate::vectors::lines;
 
     #[test]
     fn agrees_with_document_01() {
@@ -216,5 +220,15 @@ mod tests {
         }
         let [_, (n, at_least_five, _), ..] = refused_tables();
         assert_eq!(second.find(n as usize, &at_least_five), None);
+    }
+
+    #[test]
+    fn agrees_with_the_vectors_of_up_to_three_inputs() {
+        let second = Second::new();
+        let folder = concat!(env!("CARGO_MANIFEST_DIR"), "/vectors");
+        for line in lines(&format!("{folder}/match-small-high.txt")) {
+            let found = second.find(line.n as usize, &line.table);
+            assert_eq!(found, line.block, "n {}, {:02X?}", line.n, line.table);
+        }
     }
 }

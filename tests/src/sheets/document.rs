@@ -31,9 +31,9 @@ fn eight() -> Vec<u8> {
         .collect()
 }
 
-/// Records to follow the eight, with the number of their refusal: P10, P11, P12 and Q4, one with n
-/// 10, one with the last record's number pair, one with a greater block number and a lesser
-/// spacecraft number, one with spacecraft number 0.
+/// Records to follow the eight, with the number of their refusal: P10, P11, P1 as document 01 has
+/// it and Q4, one with n 10, one with the last record's number pair, one with a greater block
+/// number and a lesser spacecraft number, one with spacecraft number 0.
 fn wrong() -> Vec<(Pair, u8, [u8; 10], u8)> {
     let of_blocks = refused_blocks().map(|(n, block, number)| ((258, 0), n, block, number));
     let mut wrong = of_blocks.to_vec();
@@ -86,6 +86,29 @@ fn about_wrong() -> Vec<Fact> {
     facts
 }
 
+/// What is known of the eight records with P1 as document 01 has it in the place of one of them.
+fn about_low() -> Vec<Fact> {
+    let [_, _, (n, low, number), _] = refused_blocks();
+    let mut facts = vec![];
+    for (pair, place) in PAIRS.into_iter().zip(0..) {
+        let mut sheet = eight();
+        let at = 14 * place as usize;
+        sheet[at..at + 14].copy_from_slice(&record(pair, n, &low));
+        let asked = [
+            Question::Check,
+            Question::Read { place, room: 14 },
+            Question::Find { pair },
+            added(&sheet, (258, 0), n, &P2),
+        ];
+        let answer = Answer {
+            number,
+            part: place,
+        };
+        facts.extend(asked.map(|question| (question, sheet.clone(), answer)));
+    }
+    facts
+}
+
 /// What is known of a sheet of 4,681 records with P2's block, of spacecraft 1 and 2: nothing can be
 /// added, and the faults of a record offered come before 5.
 fn about_full() -> Vec<Fact> {
@@ -122,6 +145,7 @@ pub fn facts() -> Vec<Fact> {
     ];
     facts.extend(about_eight());
     facts.extend(about_wrong());
+    facts.extend(about_low());
     facts.extend(about_full());
     facts
 }

@@ -1,12 +1,11 @@
 -- `contents::least` meets its contract: where no table H passes the first test nothing computes the
 -- table, and else the least of the contents that the test finds is the least of all. Assumes nothing.
-use Prim.Native.Nat.{_<_}
 use mathlib.Core.Path.{_≡_, sym, _∙_}
 use mathlib.Core.Bool.{true}
 use native.Mathlib.Omega.{arith}
 use borrow.Author.Tests.{not-true, not-false}
 use Rattle.contents.specs.Contents.{isWiring}
-use Rattle.contents.proofs.ChoiceLaws.{pieces, direct-lt}
+use Rattle.contents.proofs.ChoiceLaws.{pieces}
 use Rattle.contents.proofs.LeastLaws.{least-of-all, none-possible, weighs-refused, weighs-tidy}
 use Rattle.contents.proofs.least.Statement.{statement}
 use Rattle.contents.proofs.least.Tie as tie
@@ -15,12 +14,6 @@ tidy : (c : tie.Else1)
     → let args = c .before .before .before .args in
     isWiring (args .n) (args .f) (args .g) (args .direct) ≡ true
 tidy c = sym (c .before .is-wiring .ensures) ∙ not-false _ (c .if1 .left)
-
-direct-small : (c : tie.After-wires-of) → c .wires-of .result .direct < 16
-direct-small c =
-    let args = c .before .before .before .before .args in
-    rw (c .wires-of .ensures .pin)
-    (direct-lt (args .n) (args .f) (args .g) (args .direct) (tidy (c .before)))
 
 returns : tie.Need-returns
 returns c =
@@ -34,7 +27,7 @@ wires-of-requires c κs = tidy c
 demands-requires : tie.Need-demands-requires
 demands-requires c κs =
     let args = c .before .before .before .before .args in
-    (pieces (args .n) (args .f) (args .g) (args .direct) (tidy (c .before)) .within, direct-small c)
+    pieces (args .n) (args .f) (args .g) (args .direct) (tidy (c .before)) .within
 
 returns-2 : tie.Need-returns-2
 returns-2 c =
@@ -46,9 +39,6 @@ returns-2 c =
     (none-possible (args .n) (args .t .now) (args .f) (args .g) (args .direct) is
     (made .wires-of .result) (made .wires-of .ensures) (asked .demands .result) (asked .demands .ensures)
     (sym (c .before .possible .ensures) ∙ not-true _ (c .if2 .taken)))
-
-smallest-requires : tie.Need-smallest-requires
-smallest-requires c κs = direct-small (c .before .before .before)
 
 returns-3 : tie.Need-returns-3
 returns-3 c =
@@ -65,4 +55,4 @@ pub least-spec : {M : Type 1} → statement M
 least-spec =
     tie.close
     (tie.spec (λ c. omega arith) returns wires-of-requires demands-requires (λ c. omega arith)
-    returns-2 smallest-requires returns-3)
+    returns-2 (λ c κs. tt) returns-3)

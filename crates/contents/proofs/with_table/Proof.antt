@@ -9,7 +9,7 @@ use Rattle.contents.proofs.with_table.Tie as tie
 returns : tie.Need-returns
 returns c =
     let args = c .before .before .args in
-    with-loud (args .w) (args .a) (args .h) (sym (c .before .silent .ensures) ∙ not-true _ (c .if1 .taken))
+    with-loud (args .w) (args .a) (args .h) (sym (c .before .direct-quiet .ensures) ∙ not-true _ (c .if1 .taken))
 
 returns-2 : tie.Need-returns-2
 returns-2 c =
@@ -26,7 +26,7 @@ returns-3 c =
     let args = hushed .before .before .args in
     rw (c .before .table .ensures .0, c .table2 .ensures .0)
     (with-as (args .w) (args .a) (args .h)
-    (sym (hushed .before .silent .ensures) ∙ not-false _ (hushed .if1 .left))
+    (sym (hushed .before .direct-quiet .ensures) ∙ not-false _ (hushed .if1 .left))
     (chosen .choices .result) (chosen .choices .ensures) (not-false _ (fine .if2 .left)))
 
 pub with-table-spec : {M : Type 1} → statement M

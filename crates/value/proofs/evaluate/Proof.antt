@@ -20,7 +20,7 @@ block-of : (c : tie.After-known-told2)
 block-of c = opened _ _ _ _ (c .before .unpacked2 .given .1) (c .before .before .before .unpack .ensures)
 
 value-at-requires : tie.Need-value-at-requires
-value-at-requires c κs = let block = block-of c in (block .within, block .small)
+value-at-requires c κs = block-of c .within
 
 returns : tie.Need-returns
 returns c =

@@ -1,12 +1,14 @@
--- `codec::four_quiet` meets its contract: each mask marks the rows of its pin. Assumes nothing.
+-- `block::four_quiet` meets its contract: each mask marks the rows of its pin. Assumes nothing.
 use mathlib.Core.Path.{sym}
 use native.Mathlib.Omega.{arith}
-use Rattle.codec.proofs.FaultLaws.{four-masks}
+use Rattle.bits.specs.Bits.{ofRows}
+use Rattle.block.proofs.TidyLaws.{four-masks}
 use borrow.Author.Needs.{needs}
-use Rattle.codec.proofs.four_quiet.Statement.{statement}
-use Rattle.codec.proofs.four_quiet.Tie as tie
+use Rattle.block.proofs.four_quiet.Statement.{statement}
+use Rattle.block.proofs.four_quiet.Tie as tie
 
 returns : tie.Need-returns
+unfolding ofRows
 returns c =
     let t = c .before .before .before .before .args .t in
     rw (
@@ -19,10 +21,4 @@ returns c =
 
 pub four-quiet-spec : {M : Type 1} → statement M
 four-quiet-spec =
-    tie.close
-    (tie.spec
-    (search needs)
-    (search needs)
-    (search needs)
-    (search needs)
-    returns)
+    tie.close (tie.spec (search needs) (search needs) (search needs) (search needs) returns)
