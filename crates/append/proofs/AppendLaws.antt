@@ -19,8 +19,8 @@ use Rattle.record.specs.Record.{Record, recordBytes, layOut}
 use Rattle.record.specs.Fault.{recordRefusal, whole, _then_}
 use Rattle.record.specs.Told.{told, toldOf}
 use Rattle.record.proofs.ToldLaws.{refusal-some, then-zero, then-test, told-unique, told-number}
-use Rattle.sheet.specs.Sheet.{mostRecords, recordsOf, lastKey}
-use Rattle.sheet.specs.Check.{sheetFault}
+use Rattle.records.specs.Sheet.{mostRecords, recordsOf, lastKey}
+use Rattle.records.specs.Check.{sheetFault}
 use Rattle.append.specs.Append.{noRoom, newFault, appendFault, appended, Appends}
 use Rattle.append.proofs.DecideLaws.{ownFault}
 

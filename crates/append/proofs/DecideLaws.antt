@@ -13,8 +13,8 @@ use Rattle.record.specs.Record.{Record, recordBytes}
 use Rattle.record.specs.Fault.{recordRefusal, Fault, at, whole, _then_}
 use Rattle.record.specs.Told.{placed, told, toldOf}
 use Rattle.record.proofs.ToldLaws.{stopped-by, passed-by, then-fine}
-use Rattle.sheet.specs.Sheet.{recordsOf, lastKey}
-use Rattle.sheet.specs.Check.{sheetFault, Counts}
+use Rattle.records.specs.Sheet.{recordsOf, lastKey}
+use Rattle.records.specs.Check.{sheetFault, Counts}
 use Rattle.append.specs.Append.{noRoom, newFault, appendFault}
 
 -- the used part is within the bytes, and then a sheet without a fault

@@ -9,8 +9,8 @@ use Rattle.record.specs.Record.{Record, recordBytes, pairOf}
 use Rattle.record.specs.Fault.{recordRefusal}
 use Rattle.record.specs.Answers.{Numbered}
 use Rattle.record.proofs.RecordLaws.{none-before}
-use Rattle.sheet.specs.Sheet.{recordsOf, lastKey}
-use Rattle.sheet.proofs.SheetLaws.{records-last}
+use Rattle.records.specs.Sheet.{recordsOf, lastKey}
+use Rattle.records.proofs.SheetLaws.{records-last}
 use Rattle.append.specs.Append.{AsLast}
 
 -- where there is no record, the numbers 0

@@ -13,8 +13,8 @@ use Rattle.record.specs.declared.Told.{Told}
 use Rattle.record.specs.Record.{Record, recordBytes, layOut, pairOf}
 use Rattle.record.specs.Fault.{recordRefusal, Fault, at, whole, _then_}
 use Rattle.record.specs.Told.{Placed, told, toldOf}
-use Rattle.sheet.specs.Sheet.{mostRecords, recordsOf, lastKey}
-use Rattle.sheet.specs.Check.{sheetFault}
+use Rattle.records.specs.Sheet.{mostRecords, recordsOf, lastKey}
+use Rattle.records.specs.Check.{sheetFault}
 
 -- 5: fewer than 14 bytes left after the used part, or 4,681 records already
 abbrev pub noRoom : (left count : ℕ) → Bool

@@ -13,7 +13,7 @@ use record::HEADER_BYTES;
 use record::Numbers;
 use record::RECORD_BYTES;
 use record::Told;
-use sheet::MOST_RECORDS;
+use records::MOST_RECORDS;
 
 // The numbers of the last record; all 0 where there is none, since every assigned pair is above 0, 0.
 fn last_of(s: &[u8]) -> Numbers
@@ -43,7 +43,7 @@ fn decide(s: &[u8], used: usize, x: Numbers, ten: &[u8]) -> Told
     if s.len() < used {
         return Told::Refused(Refusal::R2, 0);
     }
-    let checked = sheet::check(&s[0..used]);
+    let checked = records::check(&s[0..used]);
     let Told::Value(count) = checked else {
         return checked;
     };

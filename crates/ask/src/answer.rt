@@ -106,7 +106,7 @@ fn asked(question: &[u8], n: &[u8], given: &[u8], last: &[u8]) {
 // The questions that leave the sheet as it is; a line that is none of them may be one about a block.
 fn look(line: &[u8], records: &[u8]) {
     if filed::asks(line, b"count", 0) {
-        say::told(sheet::check(records));
+        say::told(records::check(records));
     } else if filed::asks(line, b"find", 2) {
         filed::find(line, records);
     } else if filed::asks(line, b"place", 2) {

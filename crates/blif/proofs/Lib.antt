@@ -1,4 +1,3 @@
-pub mod ByteLaws
 pub mod SplitLaws
 pub mod NameLaws
 pub mod StartLaws

@@ -4,9 +4,9 @@ use mathlib.Core.Path.{_≡_}
 use mathlib.Core.Bool.{Bool, not, _&&_, _||_}
 use mathlib.Core.List.{List, [], _∷_}
 use lib.Dec.{ltb}
-use lib.ListN.{length}
+use lib.ListN.{length, replicate}
 use Rattle.bits.specs.Tests.{any}
-use Rattle.block.specs.Table.{tableBytes, tableOf}
+use Rattle.block.specs.Table.{mostInputs, tableBytes, tableOf}
 use Rattle.block.specs.Refusal.{_when_, Case, firstOf, numberOf, tooManyInputs}
 use Rattle.block.specs.Answer.{Answer, answer, answered, bufferAfter}
 use Rattle.words.specs.Text.{Word, contentOf}
@@ -56,6 +56,10 @@ pub record ReadsPart (content : List (List Word)) (before after : List ℕ) (r :
       ≡ answered (coverRefusal content (length before)) (0, 0)
       (inputsOf content, tableBytes (inputsOf content))
   pub kept : after ≡ bufferAfter (coverRefusal content (length before)) (coverTable content) before
+
+-- room for the longest table
+abbrev pub tableRoom : List ℕ
+tableRoom = replicate (tableBytes mostInputs) 0
 
 -- what reading a cover promises
 abbrev pub Reads : (text before after : List ℕ) (r : Cover) → Type 0

@@ -1,6 +1,6 @@
 // Tests of the bytes of a word.
 ghost use mathlib.Core.Path.{_≡_};
-ghost use Rattle.bits.specs.Tests.{every, alike};
+ghost use Rattle.bits.specs.Tests.{every};
 ghost use Rattle.marks.specs.Marks.{isMark};
 ghost use Rattle.blif.specs.Part.{inName};
 ghost use Rattle.blif.specs.Reading.{isOf};
@@ -38,21 +38,6 @@ pub(crate) fn are(sort: Sort, word: &[u8]) -> bool
 {
     for i in 0..word.len() {
         if !is_of(sort, word[i]) {
-            return false;
-        }
-    }
-    true
-}
-
-// Whether the two words are the same.
-pub(crate) fn same(a: &[u8], b: &[u8]) -> bool
-    ensures { λ r. ⌜ r ≡ alike (now (a .entry)) (now (b .entry)) ⌝ }
-{
-    if a.len() != b.len() {
-        return false;
-    }
-    for i in 0..a.len() {
-        if a[i] != b[i] {
             return false;
         }
     }

@@ -18,6 +18,9 @@ use block::Refusal;
 use block::Written;
 use lines::Gathered;
 
+// Room for the longest table.
+pub const TABLE_ROOM: usize = 64;
+
 // n and the length in use, or a refusal.
 pub enum Cover {
     Table(u8, usize),

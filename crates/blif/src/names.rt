@@ -57,7 +57,7 @@ fn occurs(name: &[u8], line: &[u8], at: usize) -> bool
         if start == end {
             return false;
         }
-        if bytes::same(name, &line[start..end]) {
+        if words::same(name, &line[start..end]) {
             return true;
         }
         i = end;
@@ -94,7 +94,7 @@ pub(crate) fn open(line: &[u8]) -> Opening
     let start = word.start;
     let end = word.end;
     let counted = names(line, end);
-    let first = bytes::same(&line[start..end], b".names");
+    let first = words::same(&line[start..end], b".names");
     Opening {
         good: first & ((0 < counted.many) & counted.good),
         at: end,

@@ -36,6 +36,26 @@ at-refusal P above R15 = above 14
 at-refusal P above R16 = above 15
 at-refusal P above R17 = above 16
 
+-- and of two digits at most
+pub two-digits : (r : Refusal) → numberOf r < 100
+two-digits R1 = omega arith
+two-digits R2 = omega arith
+two-digits R3 = omega arith
+two-digits R4 = omega arith
+two-digits R5 = omega arith
+two-digits R6 = omega arith
+two-digits R7 = omega arith
+two-digits R8 = omega arith
+two-digits R9 = omega arith
+two-digits R10 = omega arith
+two-digits R11 = omega arith
+two-digits R12 = omega arith
+two-digits R13 = omega arith
+two-digits R14 = omega arith
+two-digits R15 = omega arith
+two-digits R16 = omega arith
+two-digits R17 = omega arith
+
 -- the refusal of a number
 abbrev refusalOf : ℕ → Refusal
 refusalOf k =

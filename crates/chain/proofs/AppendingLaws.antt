@@ -12,8 +12,8 @@ use Rattle.record.specs.declared.Told.the-variants.{Value}
 use Rattle.record.specs.Record.{Record, recordBytes, layOut, keyOf}
 use Rattle.record.specs.Told.{placed}
 use Rattle.record.proofs.ToldLaws.{told-fine, fine-of, told-unique}
-use Rattle.sheet.specs.Sheet.{recordsOf, sheetOf, lastKey}
-use Rattle.sheet.specs.Check.{sheetFault}
+use Rattle.records.specs.Sheet.{recordsOf, sheetOf, lastKey}
+use Rattle.records.specs.Check.{sheetFault}
 use Rattle.finding.specs.Read.{recordAt, readAnswer}
 use Rattle.finding.specs.Find.{placeAnswer}
 use Rattle.append.specs.Append.{appendFault, appended, Appends}

@@ -11,8 +11,8 @@ use Rattle.bits.proofs.FieldLaws.{same-byte}
 use Rattle.record.specs.Record.{Record, headerBytes, recordBytes, headerOf, layOut, recordOf}
 use Rattle.record.specs.Record.{keyOf, zeroRecord}
 use Rattle.record.proofs.LayoutLaws.{header-fields}
-use Rattle.sheet.specs.Sheet.{recordsIn, recordsOf, sheetOf, bytesAt}
-use Rattle.sheet.proofs.SheetLaws.{records-length, records-at}
+use Rattle.records.specs.Sheet.{recordsIn, recordsOf, sheetOf, bytesAt}
+use Rattle.records.proofs.SheetLaws.{records-length, records-at}
 use Rattle.chain.proofs.NextLaws.{ruled-length, ruled-again}
 use Rattle.chain.proofs.FollowsLaws.{Follows}
 

@@ -12,8 +12,8 @@ use Rattle.block.specs.Answer.{answer}
 use Rattle.record.specs.declared.Told.{Told}
 use Rattle.record.specs.Record.{Record, recordBytes, zeroRecord, keyOf}
 use Rattle.record.specs.Told.{placed, toldOf}
-use Rattle.sheet.specs.Sheet.{sheetOf}
-use Rattle.sheet.specs.Check.{sheetFault}
+use Rattle.records.specs.Sheet.{sheetOf}
+use Rattle.records.specs.Check.{sheetFault}
 use Rattle.finding.specs.Find.{placeAnswer, Finds}
 use Rattle.finding.specs.Read.{readAnswer}
 use Rattle.chain.specs.Rules.{Listed}

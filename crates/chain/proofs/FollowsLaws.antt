@@ -11,8 +11,8 @@ use Rattle.bits.specs.Bits.{Bytes}
 use Rattle.record.specs.Record.{Record, keyOf, zeroRecord}
 use Rattle.record.specs.Fault.{recordRefusal, at}
 use Rattle.record.proofs.ToldLaws.{then-zero}
-use Rattle.sheet.specs.Sheet.{mostRecords, lastKey}
-use Rattle.sheet.specs.Check.{firstFault}
+use Rattle.records.specs.Sheet.{mostRecords, lastKey}
+use Rattle.records.specs.Check.{firstFault}
 use Rattle.chain.specs.Rules.{Ruled, Listed}
 use Rattle.chain.proofs.OrderLaws.{before-trans}
 use Rattle.chain.proofs.NextLaws.{Next, next-of-none, none-of-next}

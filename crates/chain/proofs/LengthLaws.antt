@@ -17,9 +17,9 @@ use Rattle.codec.specs.Check.{lastBitsSet}
 use Rattle.record.specs.Record.{Record, headerBytes, recordBytes, recordOf, keyOf, zeroRecord}
 use Rattle.record.specs.Fault.{unassigned, notAbove, recordRefusal, at}
 use Rattle.record.proofs.ToldLaws.{then-cases}
-use Rattle.sheet.specs.Sheet.{recordsOf, bytesAt}
-use Rattle.sheet.specs.Check.{wrongLength, firstFault, sheetFault}
-use Rattle.sheet.proofs.SheetLaws.{records-length, records-at}
+use Rattle.records.specs.Sheet.{recordsOf, bytesAt}
+use Rattle.records.specs.Check.{wrongLength, firstFault, sheetFault}
+use Rattle.records.proofs.SheetLaws.{records-length, records-at}
 
 -- no case gives the number
 abbrev lacks : (k : ℕ) (cases : List Case) → Bool

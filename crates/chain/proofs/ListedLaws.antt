@@ -7,9 +7,9 @@ use native.Mathlib.Omega.{arith}
 use lib.ListN.{length}
 use Rattle.bits.specs.Bits.{Bytes}
 use Rattle.record.specs.Record.{Record, recordBytes}
-use Rattle.sheet.specs.Sheet.{recordsOf, sheetOf}
-use Rattle.sheet.specs.Check.{sheetFault}
-use Rattle.sheet.proofs.BoundLaws.{accepted-length, accepted-records, records-few, accepted-of}
+use Rattle.records.specs.Sheet.{recordsOf, sheetOf}
+use Rattle.records.specs.Check.{sheetFault}
+use Rattle.records.proofs.BoundLaws.{accepted-length, accepted-records, records-few, accepted-of}
 use Rattle.chain.specs.Rules.{Listed, SheetOf}
 use Rattle.chain.proofs.FollowsLaws.{Follows, follows-of-none, none-of-follows}
 use Rattle.chain.proofs.FollowsLaws.{listed-of-follows, follows-of-listed}

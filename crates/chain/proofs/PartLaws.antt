@@ -14,8 +14,8 @@ use Rattle.record.specs.declared.Told.the-variants.{Refused}
 use Rattle.record.specs.Record.{Record, headerBytes, recordBytes, layOut, recordOf, zeroRecord, keyOf}
 use Rattle.record.specs.Record.{hasKey}
 use Rattle.record.proofs.ToldLaws.{fine-of, told-number}
-use Rattle.sheet.specs.Sheet.{sheetOf, bytesAt}
-use Rattle.sheet.proofs.WalkLaws.{ten-part}
+use Rattle.records.specs.Sheet.{sheetOf, bytesAt}
+use Rattle.records.proofs.WalkLaws.{ten-part}
 use Rattle.finding.specs.Find.{placeOf, findFault, Finds}
 use Rattle.finding.specs.Read.{readFault, copyFault, copiedInto}
 use Rattle.chain.specs.Rules.{Listed}

@@ -11,8 +11,8 @@ use Rattle.block.specs.Answer.{answer}
 use Rattle.record.specs.Record.{Record, pairOf, zeroRecord, keyOf, hasKey}
 use Rattle.record.specs.Fault.{unassigned}
 use Rattle.record.specs.Told.{placed}
-use Rattle.sheet.specs.Sheet.{sheetOf}
-use Rattle.sheet.specs.Check.{sheetAnswer}
+use Rattle.records.specs.Sheet.{sheetOf}
+use Rattle.records.specs.Check.{sheetAnswer}
 use Rattle.finding.specs.Find.{placeOf, placeAnswer}
 use Rattle.finding.specs.Read.{readFault, readAnswer}
 use Rattle.chain.specs.Rules.{Listed}

@@ -8,7 +8,7 @@ use Rattle.codec.specs.Order.{before}
 use Rattle.codec.specs.Check.{Accepted}
 use Rattle.bits.specs.Bits.{Bytes}
 use Rattle.record.specs.Record.{Record, mostCraft, mostBlock, keyOf, zeroRecord}
-use Rattle.sheet.specs.Sheet.{mostRecords, sheetOf}
+use Rattle.records.specs.Sheet.{mostRecords, sheetOf}
 
 -- spacecraft number 0 is unassigned and not allowed; block numbers run 0 to 4,095; the ten bytes are
 -- those of a tidy block of n inputs

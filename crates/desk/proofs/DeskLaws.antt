@@ -14,14 +14,16 @@ use Rattle.words.specs.Text.{contentOf}
 use Rattle.blif.specs.declared.Cover.{Cover}
 use Rattle.blif.specs.declared.Cover.the-variants.{Table, Refused}
 use Rattle.blif.specs.Part.{inputsOf}
-use Rattle.blif.specs.Cover.{coverTable, coverRefusal, Reads}
+use Rattle.blif.specs.Cover.{coverTable, coverRefusal, tableRoom, Reads}
 use Rattle.blif.proofs.CoverLaws.{reads-unique, read-table}
 use Rattle.line.specs.declared.Said.{Said}
-use Rattle.line.specs.Line.{refusalLine, Says, SaysRefusal, Answers, longest}
+use Rattle.text.specs.Line.{refusalLine}
+use Rattle.text.proofs.TextLaws.{text-unique}
+use Rattle.line.specs.Line.{Says, SaysRefusal, Answers, longest}
 use Rattle.line.proofs.PartLaws.{says-lines}
-use Rattle.line.proofs.LineLaws.{text-unique, said-same, says-unique}
+use Rattle.line.proofs.LineLaws.{said-same, says-unique}
 use Rattle.line.proofs.LineLaws.{Short, refusal-short, lines-short, short-within, short-fits}
-use Rattle.desk.specs.Desk.{tableRoom, SaysCover, Tells}
+use Rattle.desk.specs.Desk.{SaysCover, Tells}
 
 -- the two cases of what reading answered
 pub tells-table : (text table before after : List ℕ) (cover : Cover) (n used : ℕ) (r : Said)
@@ -81,7 +83,7 @@ cover-short (Table n used) table before after r s =
     lines-short n (take used table) before after (r .line)
     (says-lines n (take used table) before after r s)
 cover-short (Refused k) table before after r s =
-    refusal-short (numberOf k) before after (r .line) (s .written)
+    refusal-short k before after (r .line) (s .written)
 
 -- the length in use is within the buffer
 pub tells-within : (text before after : List ℕ) (r : Said) (used : ℕ) → r .line ≡ Length used

@@ -23,9 +23,9 @@ use Rattle.words.specs.Text.{Word, contentOf}
 use Rattle.blif.specs.declared.Cover.{Cover}
 use Rattle.blif.specs.declared.Cover.the-variants.{Table, Refused}
 use Rattle.blif.specs.Part.{namesOf, coverOf, inputsOf, isPart, repeats, bothOutputs}
-use Rattle.blif.specs.Cover.{coverRefusal, Reads}
+use Rattle.blif.specs.Cover.{coverRefusal, tableRoom, Reads}
 use Rattle.line.specs.declared.Said.{Said}
-use Rattle.desk.specs.Desk.{tableRoom, SaysCover, Tells, IsTold}
+use Rattle.desk.specs.Desk.{SaysCover, Tells, IsTold}
 use Rattle.desk.proofs.MatchedLaws.{read-number}
 
 pick-told : (fault : Bool) (k m : ℕ) → IsTold k → IsTold m → IsTold (pick fault k m)

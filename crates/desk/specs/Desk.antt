@@ -4,18 +4,13 @@ use Prim.Native.Nat.{ℕ}
 use mathlib.Core.Path.{_≡_}
 use mathlib.Core.Bool.{true}
 use mathlib.Core.List.{List, [], _∷_}
-use lib.ListN.{take, replicate}
+use lib.ListN.{take}
 use Rattle.bits.specs.Tests.{member}
-use Rattle.block.specs.Table.{mostInputs, tableBytes}
 use Rattle.blif.specs.declared.Cover.{Cover}
 use Rattle.blif.specs.declared.Cover.the-variants.{Table, Refused}
-use Rattle.blif.specs.Cover.{Reads}
+use Rattle.blif.specs.Cover.{tableRoom, Reads}
 use Rattle.line.specs.declared.Said.{Said}
 use Rattle.line.specs.Line.{Says, SaysRefusal}
-
--- room for the longest table
-abbrev pub tableRoom : List ℕ
-tableRoom = replicate (tableBytes mostInputs) 0
 
 -- what is said of a cover that was read, its table at the start of the room
 unfoldable pub SaysCover : (cover : Cover) (table before after : List ℕ) (r : Said) → Type 0

@@ -8,8 +8,6 @@ use lib.ListN.{length}
 use Rattle.block.specs.declared.Written.{Written}
 use Rattle.block.specs.declared.Parts.{Parts}
 use Rattle.block.specs.declared.Refusal.{Refusal}
-use Rattle.block.specs.declared.Refusal.the-variants.{R1, R2, R3, R4, R5, R6, R7, R8, R9, R10}
-use Rattle.block.specs.declared.Refusal.the-variants.{R11, R12, R13, R14, R15, R16, R17}
 use Rattle.block.specs.declared.Letter.{Letter}
 use Rattle.block.specs.declared.Letter.the-variants.{A, B, C}
 use Rattle.block.specs.Block.{Block}
@@ -17,6 +15,7 @@ use Rattle.block.specs.Kind.{letterCode}
 use Rattle.block.specs.Refusal.{numberOf}
 use Rattle.block.specs.Code.{blockOf}
 use Rattle.block.specs.Answer.{Answer, answered, writtenOf, Writes}
+use Rattle.block.proofs.RefusalLaws.{two-digits}
 use Rattle.codec.specs.Ten.{blockBytes}
 use Rattle.codec.specs.Answers.{Packs}
 use Rattle.codec.proofs.TenLaws.{packed-length}
@@ -39,23 +38,7 @@ word-apart number part small = (omega arith, omega arith)
 
 -- every refusal's number, and every letter, is of 8 bits
 pub number-small : (k : Refusal) → numberOf k < 256
-number-small R1 = omega arith
-number-small R2 = omega arith
-number-small R3 = omega arith
-number-small R4 = omega arith
-number-small R5 = omega arith
-number-small R6 = omega arith
-number-small R7 = omega arith
-number-small R8 = omega arith
-number-small R9 = omega arith
-number-small R10 = omega arith
-number-small R11 = omega arith
-number-small R12 = omega arith
-number-small R13 = omega arith
-number-small R14 = omega arith
-number-small R15 = omega arith
-number-small R16 = omega arith
-number-small R17 = omega arith
+number-small k = omega (arith, two-digits k)
 
 pub letter-small : (l : Letter) → letterCode l < 256
 letter-small A = omega arith

@@ -11,10 +11,10 @@ use Rattle.record.specs.Record.{Record, recordBytes}
 use Rattle.record.specs.Fault.{Fault, recordRefusal, at, whole}
 use Rattle.record.specs.Told.{told}
 use Rattle.record.proofs.ToldLaws.{then-zero}
-use Rattle.sheet.specs.Sheet.{mostRecords, recordsOf, lastKey}
-use Rattle.sheet.specs.Check.{sheetFault, sheetAnswer}
-use Rattle.sheet.proofs.SheetLaws.{records-length}
-use Rattle.sheet.proofs.BoundLaws.{at-place, then-place, sheet-place, records-few}
+use Rattle.records.specs.Sheet.{mostRecords, recordsOf, lastKey}
+use Rattle.records.specs.Check.{sheetFault, sheetAnswer}
+use Rattle.records.proofs.SheetLaws.{records-length}
+use Rattle.records.proofs.BoundLaws.{at-place, then-place, sheet-place, records-few}
 use Rattle.finding.specs.Find.{placeOf, placeAnswer}
 use Rattle.finding.specs.Read.{readFault, copyFault, copyAnswer}
 use Rattle.finding.proofs.ReadLaws.{readable-of}

@@ -15,7 +15,7 @@ use Rattle.matcher.specs.Match.{Matched}
 use Rattle.batch.specs.Batch.{Batched}
 use Rattle.record.specs.Record.{Record, pairOf}
 use Rattle.record.specs.Told.{Placed}
-use Rattle.sheet.specs.Check.{sheetAnswer}
+use Rattle.records.specs.Check.{sheetAnswer}
 use Rattle.finding.specs.Find.{placeAnswer}
 use Rattle.finding.specs.Read.{copyAnswer, copiedInto}
 use Rattle.append.specs.Append.{appendAnswer, sheetAfter}

@@ -136,7 +136,7 @@ fn told_word(told: Told) -> u64
 pub extern "C" fn drawmitten_sheet_check(s: &[u8]) -> u64
     ensures { λ r. ⌜ CountsC (now (s .entry)) r ⌝ }
 {
-    told_word(sheet::check(s))
+    told_word(records::check(s))
 }
 
 // The bytes of the record at a place, at the start of the lent buffer.

@@ -15,9 +15,9 @@ use Rattle.record.specs.declared.Told.{Told}
 use Rattle.record.specs.declared.Told.the-variants.{Value, Refused}
 use Rattle.record.specs.Record.{headerBytes, recordBytes, recordOf, hasKey}
 use Rattle.record.proofs.ToldLaws.{told-unique, value-told, refusal-told}
-use Rattle.sheet.specs.Sheet.{recordsIn, recordsOf, bytesAt}
-use Rattle.sheet.specs.Check.{Counts}
-use Rattle.sheet.proofs.SheetLaws.{records-length, records-step}
+use Rattle.records.specs.Sheet.{recordsIn, recordsOf, bytesAt}
+use Rattle.records.specs.Check.{Counts}
+use Rattle.records.proofs.SheetLaws.{records-length, records-step}
 use Rattle.finding.specs.Find.{placeIn, placeOf, findFault, Places, PartOf, unrefused, Finds}
 use Rattle.finding.proofs.ReadLaws.{read-stops, refuses-12, tells-value, readable-of}
 

@@ -26,14 +26,14 @@ use Rattle.record.specs.Answers.{Numbered}
 use Rattle.record.proofs.RecordLaws.{numbered-record}
 use Rattle.record.proofs.ToldLaws.{stopped-by, passed-by, told-fault, told-fine, then-fine}
 use Rattle.record.proofs.ToldLaws.{then-test, told-unique, value-told, refusal-told}
-use Rattle.sheet.specs.Sheet.{recordsOf, bytesAt}
-use Rattle.sheet.specs.Check.{sheetFault, Counts}
-use Rattle.sheet.proofs.SheetLaws.{records-length, records-at}
-use Rattle.sheet.proofs.BoundLaws.{counted}
+use Rattle.records.specs.Sheet.{recordsOf, bytesAt}
+use Rattle.records.specs.Check.{sheetFault, Counts}
+use Rattle.records.proofs.SheetLaws.{records-length, records-at}
+use Rattle.records.proofs.BoundLaws.{counted}
 use Rattle.finding.specs.declared.Header.{Header}
 use Rattle.finding.specs.declared.Header.the-variants.{Is, Refused as NotRead}
 use Rattle.finding.specs.declared.Reading.{Reading}
-use Rattle.finding.specs.Read.{recordAt, readFault, headerAnswer, readingOf, Reads}
+use Rattle.finding.specs.Read.{recordAt, readFault, Stands, headerAnswer, readingOf, Reads}
 use Rattle.finding.specs.Read.{copyFault, Copies}
 
 -- a sheet's fault is that of reading in it
@@ -179,6 +179,9 @@ same-header (NotRead k p) (NotRead m q) a b e =
     let place = ap (λ (z : Answer (Placed Record)). z .parts .place) e in
     let bytes = ap (λ (z : Answer (Placed Record)). z .parts .value .ten) e in
     (rw (same, place), bytes)
+
+pub stands-unique : (s : List ℕ) (place : ℕ) (r q : Told) → Stands s place r → Stands s place q → r ≡ q
+stands-unique s place r q = told-unique r q _
 
 pub reads-unique : (s : List ℕ) (place : ℕ) (r q : Reading) → Reads s place r → Reads s place q → r ≡ q
 reads-unique s place r q e e' =

@@ -12,7 +12,7 @@ use Rattle.record.specs.declared.Told.{Told}
 use Rattle.record.specs.Record.{Record, headerBytes, recordBytes, hasKey}
 use Rattle.record.specs.Fault.{Fault}
 use Rattle.record.specs.Told.{Placed, told, toldOf}
-use Rattle.sheet.specs.Sheet.{recordsOf}
+use Rattle.records.specs.Sheet.{recordsOf}
 use Rattle.finding.specs.Read.{readFault}
 
 -- how many records stand before the first with the number pair; all of them if none has it

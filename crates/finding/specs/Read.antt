@@ -10,8 +10,8 @@ use Rattle.record.specs.declared.Told.{Told}
 use Rattle.record.specs.Record.{Record, recordBytes, offered, recordWith, zeroRecord}
 use Rattle.record.specs.Fault.{Fault, whole, _then_}
 use Rattle.record.specs.Told.{Placed, placed, told, toldOf}
-use Rattle.sheet.specs.Sheet.{recordsOf, bytesAt}
-use Rattle.sheet.specs.Check.{sheetFault}
+use Rattle.records.specs.Sheet.{recordsOf, bytesAt}
+use Rattle.records.specs.Check.{sheetFault}
 use Rattle.finding.specs.declared.Header.{Header}
 use Rattle.finding.specs.declared.Header.the-variants.{Is, Refused}
 use Rattle.finding.specs.declared.Reading.{Reading}
@@ -23,6 +23,10 @@ recordAt s place = getD (recordsOf s) place zeroRecord
 -- reading at a place: the sheet, then 12
 unfoldable pub readFault : (s : List ℕ) (place : ℕ) → Fault
 readFault s place = sheetFault s then whole (12 when leb (length (recordsOf s)) place ∷ [])
+
+-- what asking whether a record stands at a place promises: the number of records, or the refusal
+abbrev pub Stands : (s : List ℕ) (place : ℕ) (r : Told) → Type 0
+Stands s place r = toldOf r ≡ told (readFault s place) 0 (length (recordsOf s))
 
 -- that record's spacecraft number, block number, n and ten bytes
 abbrev pub readAnswer : (s : List ℕ) (place : ℕ) → Answer (Placed Record)

@@ -3,10 +3,9 @@ ghost use mathlib.Core.Path.{_≡_};
 ghost use lib.ListN.{length};
 ghost use Rattle.block.specs.Answer.{answer};
 ghost use Rattle.record.specs.Record.{recordBytes, recordOf, pairOf};
-ghost use Rattle.record.specs.Told.{placed, told, toldOf};
-ghost use Rattle.sheet.specs.Sheet.{recordsOf};
+ghost use Rattle.record.specs.Told.{placed, toldOf};
 ghost use Rattle.finding.specs.Find.{Places, Finds};
-ghost use Rattle.finding.specs.Read.{readFault, readingOf, copyAnswer, Reads, Copies};
+ghost use Rattle.finding.specs.Read.{Stands, readingOf, copyAnswer, Reads, Copies};
 use block::BLOCK_BYTES;
 use block::Refusal;
 use record::HEADER_BYTES;
@@ -30,7 +29,7 @@ pub struct Reading {
 pub fn place_of(s: &[u8], craft: u32, block: u32) -> Told
     ensures { λ r. ⌜ Places (now (s .entry)) (pairOf craft block) r ⌝ }
 {
-    let checked = sheet::check(s);
+    let checked = records::check(s);
     let Told::Value(count) = checked else {
         return checked;
     };
@@ -57,10 +56,10 @@ pub fn find<'a>(s: &'a [u8], craft: u32, block: u32) -> &'a [u8]
 }
 
 // Whether a record stands at the place: the number of records, or a refusal.
-fn readable(s: &[u8], place: usize) -> Told
-    ensures { λ r. ⌜ toldOf r ≡ told (readFault (now (s .entry)) place) 0 (length (recordsOf (now (s .entry)))) ⌝ }
+pub fn readable(s: &[u8], place: usize) -> Told
+    ensures { λ r. ⌜ Stands (now (s .entry)) place r ⌝ }
 {
-    let checked = sheet::check(s);
+    let checked = records::check(s);
     let Told::Value(count) = checked else {
         return checked;
     };

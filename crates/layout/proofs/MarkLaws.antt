@@ -12,7 +12,7 @@ use Rattle.bits.proofs.TestLaws.{both-left, both-right, same-test}
 use Rattle.bits.proofs.BitLaws.{same-number}
 use Rattle.marks.specs.Marks.{digitOf, isMark, agrees, coversFrom, covers}
 use Rattle.layout.specs.Written.{rowMarks}
-use Rattle.layout.proofs.TextLaws.{plain}
+use Rattle.words.proofs.PlainLaws.{plain}
 
 pub marks-length : (r i count : ℕ) → length (rowMarks r i count) ≡ count
 unfolding rowMarks

@@ -10,7 +10,7 @@ use Rattle.bits.specs.Tests.{alike, all, any}
 use Rattle.bits.proofs.AnyLaws.{any-append}
 use Rattle.blif.specs.Part.{isName, repeats}
 use Rattle.layout.specs.Written.{inputNames, outputName}
-use Rattle.layout.proofs.TextLaws.{isPlain}
+use Rattle.words.proofs.PlainLaws.{isPlain}
 
 pub names-length : (i count : ℕ) → length (inputNames i count) ≡ count
 unfolding inputNames

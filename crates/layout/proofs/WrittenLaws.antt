@@ -21,7 +21,8 @@ use Rattle.blif.specs.Cover.{valueAt, coverTable, coverRefusal, ReadsPart, Read
 use Rattle.blif.proofs.CoverLaws.{same-cover}
 use Rattle.layout.specs.Written.{inputNames, outputName, headerOf, rowLines, coverContent}
 use Rattle.layout.specs.Written.{coverText, HasRow}
-use Rattle.layout.proofs.TextLaws.{isPlain, isWritten, content-text}
+use Rattle.words.proofs.PlainLaws.{isPlain}
+use Rattle.layout.proofs.TextLaws.{isWritten, content-text}
 use Rattle.layout.proofs.NameLaws.{names-length, names-plain, names-named, names-apart}
 use Rattle.layout.proofs.RowLaws.{lines-cover, lines-written, lines-value, lines-one-sided}
 

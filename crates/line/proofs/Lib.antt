@@ -1,5 +1,4 @@
 -- The laws of the line. Assumes nothing.
-pub mod TextLaws
 pub mod PartLaws
 pub mod LineLaws
 pub mod SurplusLaws

@@ -4,32 +4,23 @@ use mathlib.Core.Path.{_≡_, sym, ap₂, _∙_}
 use mathlib.Core.List.{List, [], _∷_}
 use Prim.Native.Nat.{ℕ, _≤_}
 use native.Mathlib.Omega.{arith}
-use lib.Dec.{ltb}
-use lib.ListN.{length, length-append}
-use borrow.Author.Tests.{le-ltb, ltb-false}
-use Rattle.bits.specs.Tests.{pick}
-use Rattle.bits.proofs.SearchLaws.{byBool}
+use lib.ListN.{length}
+use Rattle.block.specs.declared.Refusal.{Refusal}
+use Rattle.block.specs.declared.Refusal.the-variants.{R2}
 use Rattle.block.specs.declared.Written.{Written}
 use Rattle.block.specs.declared.Written.the-variants.{Length, Refused}
 use Rattle.block.specs.Refusal.{numberOf}
 use Rattle.block.specs.Answer.{writtenOf}
-use Rattle.block.proofs.RefusalLaws.{pick-zero}
-use Rattle.block.proofs.AnswerLaws.{written-unique, written-number, answered-parts}
-use Rattle.codec.specs.Ten.{tenZeros, unpackOf}
+use Rattle.codec.specs.Ten.{tenZeros}
 use Rattle.codec.proofs.CheckLaws.{accepted-of-none}
 use Rattle.matcher.specs.Match.{Matched}
 use Rattle.matcher.proofs.UniqueMatch.{match-unique}
 use Rattle.line.specs.declared.Said.{Said}
-use Rattle.line.specs.Text.{decimal}
-use Rattle.line.specs.Line.{blockLine, refusalLine, answerLine, WritesText}
-use Rattle.line.specs.Line.{Says, Lines, Answers, longest}
-use Rattle.line.proofs.TextLaws.{hexadecimal-length, decimal-one}
-use Rattle.line.proofs.PartLaws.{digit-lt, ten-checked, says-lines}
-
-pub text-unique : (text before after after' : List ℕ) (r q : Written) → WritesText text before after r
-    → WritesText text before after' q → (r ≡ q) × (after ≡ after')
-text-unique text before after after' r q w w' =
-    written-unique (pick (ltb (length before) (length text)) 5 0) text before after after' r q w w'
+use Rattle.text.specs.Line.{refusalLine, WritesText}
+use Rattle.text.proofs.TextLaws.{text-unique, text-within, text-fits, refusal-length}
+use Rattle.text.proofs.BlockLaws.{block-length}
+use Rattle.line.specs.Line.{answerLine, Says, Lines, Answers, longest}
+use Rattle.line.proofs.PartLaws.{ten-checked, says-lines}
 
 pub lines-unique : (n : ℕ) (t before after after' : List ℕ) (r q : Written) → Lines n t before after r
     → Lines n t before after' q → (r ≡ q) × (after ≡ after')
@@ -61,21 +52,11 @@ unfolding Answers
 answers-unique [] before after after' r q p p' = text-unique (refusalLine 2) before after after' r q p p'
 answers-unique (n ∷ t) before after after' r q p p' = lines-unique n t before after after' r q p p'
 
-refusal-length : (number : ℕ) → length (refusalLine number) ≤ 5
-unfolding refusalLine decimal
-refusal-length number =
-    byBool (ltb number 10) (λ e. rw e (omega arith)) (λ e. rw e (omega arith))
-
-block-length : (ten : List ℕ) → length ten ≡ 10 → length (blockLine ten) ≡ longest
-unfolding blockLine
-block-length ten long =
-    rw (decimal-one _ (digit-lt (unpackOf ten)), length-append, hexadecimal-length ten) (omega arith)
-
 pub answer-length : (n : ℕ) (t ten : List ℕ) (answer : Written) → Matched n t tenZeros ten answer
     → length (answerLine ten answer) ≤ longest
 answer-length n t ten (Length used) m =
     omega (arith, block-length ten (accepted-of-none n ten (ten-checked n t ten used m) .ten))
-answer-length n t ten (Refused k) m = omega (arith, refusal-length (numberOf k))
+answer-length n t ten (Refused k) m = omega (arith, refusal-length k)
 
 -- a text no longer than the longest line that was written, or had no room
 pub record Short (before after : List ℕ) (r : Written) : Type 0 where
@@ -83,10 +64,10 @@ pub record Short (before after : List ℕ) (r : Written) : Type 0 where
   pub short : length text ≤ longest
   pub written : WritesText text before after r
 
-pub refusal-short : (number : ℕ) (before after : List ℕ) (r : Written)
-    → WritesText (refusalLine number) before after r → Short before after r
-refusal-short number before after r w =
-    record { text = refusalLine number; short = omega (arith, refusal-length number); written = w }
+pub refusal-short : (k : Refusal) (before after : List ℕ) (r : Written)
+    → WritesText (refusalLine (numberOf k)) before after r → Short before after r
+refusal-short k before after r w =
+    record { text = refusalLine (numberOf k); short = omega (arith, refusal-length k); written = w }
 
 pub lines-short : (n : ℕ) (t before after : List ℕ) (r : Written) → Lines n t before after r
     → Short before after r
@@ -100,17 +81,13 @@ lines-short n t before after r l =
 answers-short : (input before after : List ℕ) (r : Written) → Answers input before after r
     → Short before after r
 unfolding Answers
-answers-short [] before after r w = refusal-short 2 before after r w
+answers-short [] before after r w = refusal-short R2 before after r w
 answers-short (n ∷ t) before after r l = lines-short n t before after r l
 
 -- the length in use is within the buffer
 pub short-within : (before after : List ℕ) (used : ℕ) → Short before after (Length used)
     → used ≤ length before
-short-within before after used t =
-    let lacks = ltb (length before) (length (t .text)) in
-    let parts = answered-parts (pick lacks 5 0) 0 (length (t .text)) used (t .written .told) in
-    let room = ltb-false (length before) (length (t .text)) (pick-zero lacks 4 0 (parts .0) .0) in
-    omega (arith, parts .1)
+short-within before after used t = text-within (t .text) before after used (t .written)
 
 pub answers-within : (input before after : List ℕ) (used : ℕ) → Answers input before after (Length used)
     → used ≤ length before
@@ -120,9 +97,7 @@ answers-within input before after used h =
 -- every line has room in so many bytes
 pub short-fits : (before after : List ℕ) (r : Written) → longest ≤ length before → Short before after r
     → writtenOf r .number ≡ 0
-short-fits before after r room t =
-    written-number _ (t .text) before after r (t .written)
-    ∙ rw (le-ltb (length before) (length (t .text)) (omega (arith, t .short)))
+short-fits before after r room t = text-fits (t .text) before after r (omega (arith, t .short)) (t .written)
 
 pub line-fits : (input before after : List ℕ) (r : Written) → longest ≤ length before → Answers input before after r
     → writtenOf r .number ≡ 0

@@ -1,48 +1,22 @@
 -- The line that the program prints (document 01, "The program"). Assumes nothing.
 use Prim.Native.Nat.{ℕ, _+_}
 use mathlib.Core.Path.{_≡_}
-use mathlib.Core.List.{List, [], _∷_, _++_}
-use lib.Dec.{ltb}
-use lib.ListN.{length}
+use mathlib.Core.List.{List, [], _∷_}
 use Rattle.block.specs.declared.Written.{Written}
 use Rattle.block.specs.declared.Written.the-variants.{Length, Refused}
 use Rattle.block.specs.declared.Refusal.{Refusal}
-use Rattle.block.specs.declared.Kind.{Kind}
 use Rattle.block.specs.Table.{mostInputs, tableBytes}
-use Rattle.block.specs.Kind.{letterCode, typeOf}
-use Rattle.block.specs.Refusal.{_when_, firstOf, numberOf}
-use Rattle.block.specs.Answer.{writtenOf, Writes}
-use Rattle.codec.specs.Ten.{tenZeros, unpackOf}
+use Rattle.block.specs.Refusal.{numberOf}
+use Rattle.block.specs.Answer.{writtenOf}
+use Rattle.codec.specs.Ten.{tenZeros}
 use Rattle.matcher.specs.Match.{Matched}
 use Rattle.line.specs.declared.Said.{Said}
-use Rattle.words.specs.Text.{lineFeed, blank}
-use Rattle.line.specs.Text.{hyphen, capitalR, hexadecimal, decimal}
-
--- a type, as A-0
-abbrev pub typeText : Kind → List ℕ
-typeText k = letterCode (k .letter) ∷ hyphen ∷ decimal (k .digit)
-
--- the type, a blank, twenty hexadecimal capitals, a line feed
-abbrev pub typedLine : (k : Kind) (ten : List ℕ) → List ℕ
-typedLine k ten = typeText k ++ (blank ∷ hexadecimal ten ++ (lineFeed ∷ []))
-
--- the line of a block in ten bytes
-unfoldable pub blockLine : (ten : List ℕ) → List ℕ
-blockLine ten = typedLine (typeOf (unpackOf ten)) ten
-
--- `R`, a blank, the number in decimal, a line feed
-unfoldable pub refusalLine : (number : ℕ) → List ℕ
-refusalLine number = capitalR ∷ blank ∷ decimal number ++ (lineFeed ∷ [])
+use Rattle.text.specs.Line.{blockLine, blockLineBytes, refusalLine, WritesText}
 
 -- the line of matching's answer, with the ten bytes that were lent to it
 abbrev pub answerLine : (ten : List ℕ) → Written → List ℕ
 answerLine ten (Length used) = blockLine ten
 answerLine ten (Refused k) = refusalLine (numberOf k)
-
--- a text at the start of a lent buffer: 5 if it does not fit
-abbrev pub WritesText : (text before after : List ℕ) (r : Written) → Type 0
-WritesText text before after r =
-    Writes (firstOf (5 when ltb (length before) (length text) ∷ [])) text before after r
 
 -- What the line of a table of n inputs promises, with the number told beside it: the text of the
 -- answer that matching gives with ten bytes of room, and that answer's number.
@@ -78,4 +52,4 @@ enough = 1 + tableBytes mostInputs + 1
 
 -- the length of the longest line
 abbrev pub longest : ℕ
-longest = 25
+longest = blockLineBytes

@@ -18,8 +18,10 @@ use Rattle.block.specs.Refusal.{numberOf}
 use Rattle.block.specs.Answer.{writtenOf}
 use Rattle.block.proofs.AnswerLaws.{fills-refused}
 use Rattle.line.specs.declared.Said.{Said}
-use Rattle.line.specs.Line.{refusalLine, WritesText, longest, SaysRefusal}
-use Rattle.line.proofs.LineLaws.{text-unique, said-same, Short, refusal-short, short-within, short-fits}
+use Rattle.text.specs.Line.{refusalLine, WritesText}
+use Rattle.text.proofs.TextLaws.{text-unique}
+use Rattle.line.specs.Line.{longest, SaysRefusal}
+use Rattle.line.proofs.LineLaws.{said-same, Short, refusal-short, short-within, short-fits}
 use Rattle.requests.specs.Requests.{requestsOf, broken}
 use Rattle.requests.specs.Each.{Each}
 use Rattle.requests.proofs.CountLaws.{refuses-broken}
@@ -72,7 +74,7 @@ prints-unique s before after after' r q p p' =
 refusal-said : (s before lines after : List ℕ) (k : Refusal) (line : Written) → Lists s before lines (Refused k)
     → WritesText (refusalLine (numberOf k)) lines after line → Short before after line
 refusal-said s before lines after k line lists written =
-    refusal-short (numberOf k) before after line (rw (lists-refused s before lines k lists .1) at written)
+    refusal-short k before after line (rw (lists-refused s before lines k lists .1) at written)
 
 said-within : (s before after : List ℕ) (listed : Written) (lines : List ℕ) (r : Said) (used : ℕ)
     → r .line ≡ Length used → Lists s before lines listed → SaysListed listed lines after r

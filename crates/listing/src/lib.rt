@@ -60,7 +60,7 @@ pub fn say(build: &[u8], out: &mut [u8]) -> Said
         },
         Written::Refused(k) => Said {
             number: block::number(k),
-            line: line::of_refusal(k, out),
+            line: text::of_refusal(k, out),
         },
     }
 }

@@ -3,3 +3,5 @@ pub mod TextLaws
 pub mod LeadingLaws
 pub mod NextLaws
 pub mod LineLaws
+pub mod ByteLaws
+pub mod PlainLaws

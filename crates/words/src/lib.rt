@@ -1,7 +1,8 @@
-// The next word of a line, and the next line of a text.
+// The next word of a line, the next line of a text, and words compared.
 ghost use mathlib.Core.Path.{_≡_};
 ghost use Prim.Native.Nat.{_<_};
 ghost use lib.ListN.{length};
+ghost use Rattle.bits.specs.Tests.{alike};
 ghost use Rattle.words.specs.Text.{separates};
 ghost use Rattle.words.specs.Next.{belongs, past, endsCrLf, lineEnd, lineNext, nextWord, nextLine};
 
@@ -108,4 +109,19 @@ pub fn next_line(text: &[u8], at: usize) -> Ends
         end: line_end(text, at, feed),
         next: line_next(text, feed),
     }
+}
+
+// Whether the two words are the same.
+pub fn same(a: &[u8], b: &[u8]) -> bool
+    ensures { λ r. ⌜ r ≡ alike (now (a .entry)) (now (b .entry)) ⌝ }
+{
+    if a.len() != b.len() {
+        return false;
+    }
+    for i in 0..a.len() {
+        if a[i] != b[i] {
+            return false;
+        }
+    }
+    true
 }

@@ -187,19 +187,21 @@ fn in_pieces() -> Vec<Case> {
     ]
 }
 
+/// A path with so many bytes that names the same, by dots before its last part.
+pub fn padded(path: &str, length: usize) -> String {
+    let (before, file) = path.rsplit_once('/').expect("a path with a folder");
+    let dots = "/.".repeat(length / 2);
+    let room = length - before.len() - file.len() - 1;
+    let slash = if room % 2 == 1 { "/" } else { "" };
+    format!("{before}{}{slash}/{file}", &dots[..room - room % 2])
+}
+
 /// Names of files: the longest, one too long that begins with it, and others that open nothing.
 fn names(folder: &str) -> Vec<Case> {
     let path = made(folder, 300, PLAIN.as_bytes());
-    let (before, file) = path.rsplit_once('/').expect("a path with a folder");
-    let padded = |length: usize| {
-        let dots = "/.".repeat(length / 2);
-        let room = length - before.len() - file.len() - 1;
-        let slash = if room % 2 == 1 { "/" } else { "" };
-        format!("{before}{}{slash}/{file}", &dots[..room - room % 2])
-    };
     let opens = |name: &str| named(&[name], answered(PLAIN_LINE));
     let fails = |name: &str| named(&[name], left("", NOT_OPENED));
-    let (longest, longer) = (padded(LONGEST_NAME), padded(LONGEST_NAME + 1));
+    let [longest, longer] = [LONGEST_NAME, LONGEST_NAME + 1].map(|length| padded(&path, length));
     assert_eq!([longest.len(), longer.len()], [4095, 4096]);
     vec![
         opens(&path),

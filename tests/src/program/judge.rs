@@ -1,6 +1,6 @@
 //! Runs, each held to what it must leave.
 
-use crate::program::run::{run, Input, Left, Output};
+use crate::program::run::{run, Input, Left, Output, LATE};
 use std::sync::atomic::{AtomicUsize, Ordering};
 
 /// How many runs are under way at a time.
@@ -46,11 +46,12 @@ fn first_line(left: &Left, wanted: &Left) -> String {
 }
 
 /// What a run left, for a reader of a difference.
-fn described(left: &Left) -> String {
+pub fn described(left: &Left) -> String {
     let text = |bytes: &[u8]| bytes[..bytes.len().min(SHOWN)].escape_ascii().to_string();
     let end = match left.end {
-        -1 => "no exit status (a signal, or it did not end)".to_string(),
-        status => format!("status {status}"),
+        LATE => "no end".to_string(),
+        0.. => format!("status {}", left.end),
+        signal => format!("signal {}", -signal),
     };
     let (output, errors) = (text(&left.output), text(&left.errors));
     format!("printed \"{output}\", on standard error \"{errors}\", {end}")
@@ -65,7 +66,7 @@ fn parts(pieces: &[Vec<u8>]) -> String {
 }
 
 /// The input, for a reader of a difference: the first bytes of what is long.
-fn asked(input: &Input) -> String {
+pub fn asked(input: &Input) -> String {
     match input {
         Input::Pieces(pieces, pause) => format!("{}, pauses of {pause:?}", parts(pieces)),
         Input::Broken(bytes) => format!("{}, then broken", parts(std::slice::from_ref(bytes))),
@@ -87,12 +88,12 @@ fn judge(program: &str, case: &Case) {
     }
 }
 
-/// Runs every case, and prints how many there were under the name of the comparison.
-pub fn all(name: &str, program: &str, cases: &[Case]) {
+/// Judges every case, some at a time.
+pub fn each<T: Sync>(cases: &[T], judge: impl Fn(&T) + Sync) {
     let next = AtomicUsize::new(0);
     let work = || {
         while let Some(case) = cases.get(next.fetch_add(1, Ordering::Relaxed)) {
-            judge(program, case);
+            judge(case);
         }
     };
     std::thread::scope(|scope| {
@@ -100,5 +101,10 @@ pub fn all(name: &str, program: &str, cases: &[Case]) {
             scope.spawn(work);
         }
     });
+}
+
+/// Runs every case, and prints how many there were under the name of the comparison.
+pub fn all(name: &str, program: &str, cases: &[Case]) {
+    each(cases, |case| judge(program, case));
     println!("{name}: {} runs, 0 differ", cases.len());
 }

@@ -5,3 +5,4 @@ pub mod cases;
 pub mod cover;
 pub mod judge;
 pub mod run;
+pub mod sheet;

@@ -1,15 +1,19 @@
 //! One run of the program: what it is given, and everything that it leaves.
 
 use std::fs::{remove_file, File, OpenOptions};
-use std::io::{Read, Seek, Write};
+use std::io::{pipe, PipeWriter, Read, Seek, Write};
 use std::os::fd::OwnedFd;
 use std::os::unix::net::UnixStream;
+use std::os::unix::process::ExitStatusExt;
 use std::process::{Child, ChildStdin, Command, ExitStatus, Stdio};
 use std::thread::{current, sleep, spawn, JoinHandle};
 use std::time::{Duration, Instant};
 
 /// How long the program may take.
 const LIMIT: Duration = Duration::from_secs(20);
+
+/// The end of a program that took longer.
+pub const LATE: i32 = i32::MIN;
 
 /// The bytes that the limit of a file counts as one.
 pub const BLOCK: usize = 512;
@@ -34,11 +38,14 @@ pub enum Output {
     Pipe,
     Full,
     Closed,
+    /// A pipe that nothing reads.
+    Broken,
     /// A file that takes so many blocks: what is written beyond them fails.
     Limited(usize),
 }
 
-/// What a run leaves: both outputs, and how it ended, with 0 for status 0.
+/// What a run leaves: both outputs, and how it ended, with 0 for status 0, with the number of a signal
+/// below 0, and with `LATE` if it had to be ended.
 #[derive(PartialEq)]
 pub struct Left {
     pub output: Vec<u8>,
@@ -117,12 +124,24 @@ fn unnamed() -> std::io::Result<File> {
     Ok(file)
 }
 
+/// An end of a pipe that nothing reads: the other end is closed, also in programs that were about to
+/// start.
+fn unread() -> std::io::Result<PipeWriter> {
+    let (reader, mut writer) = pipe()?;
+    drop(reader);
+    while writer.write_all(&[0]).is_ok() {
+        sleep(Duration::from_micros(300));
+    }
+    Ok(writer)
+}
+
 /// Standard output for a run, and the file that is to be read after it, if there is one.
 fn standard_output(output: &Output) -> std::io::Result<(Stdio, Option<File>)> {
     let stdio = match output {
         Output::Pipe => Stdio::piped(),
         Output::Full => OpenOptions::new().write(true).open("/dev/full")?.into(),
         Output::Closed => Stdio::null(),
+        Output::Broken => unread()?.into(),
         Output::Limited(_) => {
             let file = unnamed()?;
             return Ok((file.try_clone()?.into(), Some(file)));
@@ -154,6 +173,12 @@ fn ended(child: &mut Child) -> std::io::Result<Option<ExitStatus>> {
     child.kill()?;
     child.wait()?;
     Ok(None)
+}
+
+/// The status with which the program ended, or the number of a signal, below 0.
+fn number(status: ExitStatus) -> i32 {
+    let signal = status.signal().unwrap_or_default();
+    status.code().unwrap_or(-signal)
 }
 
 /// Takes everything that an output holds, if there is one, while the program runs.
@@ -194,7 +219,7 @@ pub fn run(
     Ok(Left {
         output: printed,
         errors: errors.join().expect("the thread ends")?,
-        end: status.and_then(|status| status.code()).unwrap_or(-1),
+        end: status.map_or(LATE, number),
     })
 }
 

@@ -11,10 +11,10 @@ use Rattle.block.specs.Refusal.{_when_}
 use Rattle.record.specs.Record.{Record, recordWith}
 use Rattle.record.specs.Fault.{Fault, whole}
 use Rattle.record.specs.Told.{told, toldOf}
-use Rattle.sheet.specs.Sheet.{recordsOf}
-use Rattle.sheet.specs.Check.{sheetFault, Counts}
+use Rattle.records.specs.Sheet.{recordsOf}
+use Rattle.records.specs.Check.{sheetFault, Counts}
 use Rattle.append.specs.Append.{newFault, appendFault}
-use Rattle.sheet.proofs.BoundLaws.{accepted-length, counted}
+use Rattle.records.proofs.BoundLaws.{accepted-length, counted}
 use Rattle.append.proofs.DecideLaws.{refuses-used, refuses-sheet}
 use Rattle.append.proofs.DecideLaws.{leaves-new, ownFault, refuses-new, leaves-room}
 use Rattle.append.proofs.decide.Statement.{statement}

@@ -8,8 +8,8 @@ use borrow.Author.Needs.{needs}
 use Rattle.bits.specs.Tests.{alike}
 use Rattle.record.specs.declared.Numbers.{Numbers}
 use Rattle.record.specs.Record.{recordOf, pairOf, hasKey}
-use Rattle.sheet.specs.Sheet.{bytesAt}
-use Rattle.sheet.proofs.BoundLaws.{counted}
+use Rattle.records.specs.Sheet.{bytesAt}
+use Rattle.records.proofs.BoundLaws.{counted}
 use Rattle.finding.proofs.FindLaws.{Looked, looked-start, looked-next}
 use Rattle.finding.proofs.FindLaws.{places-refused, places-found, places-none}
 use Rattle.finding.proofs.place_of.Statement.{statement}

@@ -1,20 +1,19 @@
 -- `line::say` meets its contract: the ten bytes of a match pass the check. Assumes nothing.
 use mathlib.Core.Path.{refl}
 use borrow.Author.Needs.{needs}
+use Rattle.text.proofs.BlockLaws.{line-text}
 use Rattle.line.proofs.PartLaws.{ten-checked, says-told}
 use Rattle.line.proofs.say.Statement.{statement}
 use Rattle.line.proofs.say.Tie as tie
 
-of-block-requires : tie.Need-of-block-requires
-of-block-requires c κs =
-    let found = c .before .before in
-    ten-checked _ _ _ _ (rw (found .enum-told .given .1) at (found .before .before .before .first-match .ensures))
-
 returns : tie.Need-returns
 returns c =
-    let found = c .before .before .before .before .before in
-    says-told _ _ _ _ _ _ _ _ (found .enum-told .given .1) (found .before .before .before .first-match .ensures)
-    refl (c .before .before .of-block .ensures)
+    let lined = c .before .before in
+    let found = lined .before .before .before in
+    let told = found .enum-told .given .1 in
+    let called = found .before .before .before .first-match .ensures in
+    let passed = ten-checked _ _ _ _ (rw told at called) in
+    says-told _ _ _ _ _ _ _ _ told called refl (line-text _ _ _ _ _ passed (lined .of-block .ensures))
 
 returns-2 : tie.Need-returns-2
 returns-2 c =
@@ -26,5 +25,5 @@ returns-2 c =
 pub say-spec : {M : Type 1} → statement M
 say-spec =
     tie.close
-    (tie.spec (search needs) (search needs) (search needs) of-block-requires (search needs)
-    (search needs) (search needs) (search needs) returns (search needs) returns-2)
+    (tie.spec (search needs) (search needs) (search needs) (search needs) (search needs)
+    (search needs) (search needs) (search needs) (search needs) returns (search needs) returns-2)

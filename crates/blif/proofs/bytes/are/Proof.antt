@@ -7,7 +7,7 @@ use borrow.Author.Needs.{needs}
 use borrow.Author.Tests.{not-true, not-false}
 use Rattle.bits.specs.Tests.{every}
 use Rattle.blif.specs.Reading.{isOf}
-use Rattle.blif.proofs.ByteLaws.{every-on, every-stop, every-end}
+use Rattle.words.proofs.ByteLaws.{every-on, every-stop, every-end}
 use Rattle.blif.proofs.bytes.are.Statement.{statement}
 use Rattle.blif.proofs.bytes.are.Tie as tie
 

@@ -3,7 +3,7 @@ use mathlib.Core.Path.{sym}
 use mathlib.Core.List.{[], _∷_}
 use denote.Ref.{now}
 use borrow.Author.Needs.{needs}
-use Rattle.blif.proofs.ByteLaws.{alike-lengths, alike-one}
+use Rattle.words.proofs.ByteLaws.{alike-lengths, alike-one}
 use Rattle.blif.proofs.lines.is_only.Statement.{statement}
 use Rattle.blif.proofs.lines.is_only.Tie as tie
 

@@ -1,0 +1,10 @@
+-- `digits::is_digit` meets its contract. Assumes nothing.
+use mathlib.Core.Path.{refl}
+use Rattle.digits.proofs.is_digit.Statement.{statement}
+use Rattle.digits.proofs.is_digit.Tie as tie
+
+returns : tie.Need-returns
+returns c = refl
+
+pub is-digit-spec : {M : Type 1} → statement M
+is-digit-spec = tie.close (tie.spec returns)

@@ -1,0 +1,3 @@
+-- Numbers and bytes as text, there and back. Assumes nothing.
+pub mod Digits
+pub mod Spelled

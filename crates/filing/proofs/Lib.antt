@@ -1,0 +1,6 @@
+-- The laws of filing. Assumes nothing.
+pub mod FilingLaws
+pub mod WithinLaws
+pub mod FiledLaws
+pub mod OfferedLaws
+pub mod CappedLaws

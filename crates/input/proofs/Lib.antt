@@ -1,0 +1,2 @@
+-- The laws of input. Assumes nothing.
+pub mod RoomLaws

@@ -1,0 +1,4 @@
+-- The laws of the lines. Assumes nothing.
+pub mod TextLaws
+pub mod BlockLaws
+pub mod NumberLaws
