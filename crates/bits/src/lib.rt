@@ -1,5 +1,8 @@
 // Leaves over fields, by shifts and masks. Each accepts every input: past an end a field reads 0, and
 // what is joined is cut by the mask that the promise names.
+
+#![tactic(auto)]
+
 ghost use Rattle.std.specs.Prelude.{◌≡◌};
 ghost use Rattle.bits.specs.Bits.{nibble, byte_of, word_of};
 

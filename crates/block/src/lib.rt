@@ -2,6 +2,8 @@
 // writer; what a pin reads, and the rows that an open pin leaves unread. Their meaning stands in
 // specs/.
 
+#![tactic(auto)]
+
 ghost use Rattle.std.specs.Prelude.{◌≡◌, not, ◌||◌, [], ◌∷◌, ◌<◌, eqb};
 ghost use Rattle.std.specs.Int.Bits.{bit_and};
 ghost use Rattle.block.specs.Block.{is_open};
@@ -35,7 +37,7 @@ pub const MOST_INPUTS: u8 = 9;
 pub const BLOCK_BYTES: usize = 10;
 
 // A four-pin table, F or G: its pin fields from the first pin on, and its sixteen rows.
-#[derive(Drop)]
+#[derive(Clone, Copy)]
 pub struct FourPin {
     pub a: u8,
     pub b: u8,
@@ -45,7 +47,7 @@ pub struct FourPin {
 }
 
 // Nine pin fields and three tables.
-#[derive(Drop)]
+#[derive(Clone, Copy)]
 pub struct Parts {
     pub f: FourPin,
     pub g: FourPin,
@@ -53,7 +55,7 @@ pub struct Parts {
     pub h: u8,
 }
 
-#[derive(Drop)]
+#[derive(Clone, Copy)]
 pub enum Letter {
     A,
     B,
@@ -61,14 +63,14 @@ pub enum Letter {
 }
 
 // The type of a block: `type` is no name in Rattle.
-#[derive(Drop)]
+#[derive(Clone, Copy)]
 pub struct Kind {
     pub letter: Letter,
     pub digit: u8,
 }
 
 // The numbered refusals of document 01 and of the requests.
-#[derive(Drop)]
+#[derive(Clone, Copy)]
 pub enum Refusal {
     R1,
     R2,
@@ -90,7 +92,7 @@ pub enum Refusal {
 }
 
 // The answer of a writer.
-#[derive(Drop)]
+#[derive(Clone, Copy)]
 pub enum Written {
     Length(usize),
     Refused(Refusal),

@@ -3,7 +3,6 @@ use mathlib.Core.Path.{◌≡◌, sym, ap, ◌∙◌}
 use mathlib.Core.List.{List}
 use Prim.Native.Nat.{ℕ, ◌≤◌}
 use Rattle.block.specs.declared.Parts.{Parts}
-use Rattle.block.specs.Block.{Block}
 use Rattle.block.specs.Code.{block_of}
 use Rattle.block.specs.Tidy.{Tidy}
 use Rattle.codec.specs.declared.Unpacked.{Unpacked}

@@ -1,4 +1,7 @@
 // The ten bytes of a block: unpacked, checked and packed.
+
+#![tactic(auto)]
+
 ghost use Rattle.std.specs.Prelude.{◌≡◌, ◌&&◌, ◌+◌, ◌/◌, ◌%◌, ◌^◌, ◌<◌};
 ghost use Rattle.bits.specs.Bits.{nibbles, joined};
 ghost use Rattle.bits.specs.Tests.{every};
@@ -12,13 +15,13 @@ ghost use Rattle.codec.specs.Answers.{checked_of, unpacked_of, Checks, Unpacks, 
 
 use block::{BLOCK_BYTES, FourPin, MOST_INPUTS, OPEN, Parts, Refusal, Written};
 
-#[derive(Drop)]
+#[derive(Clone, Copy)]
 pub enum Checked {
     Fine,
     Refused(Refusal),
 }
 
-#[derive(Drop)]
+#[derive(Clone, Copy)]
 pub enum Unpacked {
     Block(Parts),
     Refused(Refusal),
@@ -229,7 +232,7 @@ pub fn pack(n: u8, x: Parts, out: &mut [u8]) -> Written
         Checked::Refused(k) => Written::Refused(k),
         Checked::Fine => {
             let made = ten(x);
-            bytes::copy(&made, out);
+            out[..BLOCK_BYTES].copy_from_slice(&made);
             Written::Length(BLOCK_BYTES)
         }
     }

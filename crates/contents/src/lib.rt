@@ -2,6 +2,9 @@
 // A component is one value of the variables that F and G share, the direct pin's left out. Within one
 // the table fixes F and G up to turning their outputs over; whether they are turned is a polarity.
 // For each H, the first polarities that serve each component give the least F, then the least G.
+
+#![tactic(auto)]
+
 ghost use Rattle.std.specs.Prelude.{◌≡◌, true, false, ◌&&◌, ℕ, ◌-◌, ◌^◌, ◌<◌, ◌≤◌, length, get_or};
 ghost use Rattle.bits.specs.Bits.{has, num, of_rows};
 ghost use Rattle.bits.specs.Tests.{some};
@@ -28,7 +31,7 @@ const ALL: u16 = 511;
 
 // F, or G: its pins, the rows where its output changes with the variables that it has for itself,
 // and whether it carries the direct pin's variable.
-#[derive(Drop)]
+#[derive(Clone, Copy)]
 struct Side {
     key: u16,
     changes: u16,
@@ -36,7 +39,7 @@ struct Side {
 }
 
 // A wiring, and the variables that F and G share.
-#[derive(Drop)]
+#[derive(Clone, Copy)]
 struct Wires {
     f: Side,
     g: Side,
@@ -45,14 +48,14 @@ struct Wires {
 }
 
 // For each component the rows of H that must be 1, and those that must be 0.
-#[derive(Drop)]
+#[derive(Clone, Copy)]
 struct Asked {
     one: [u8; 16],
     zero: [u8; 16],
 }
 
 // The polarities of each component, where every component has some.
-#[derive(Drop)]
+#[derive(Clone, Copy)]
 struct Chosen {
     fine: bool,
     poles: [u8; 16],

@@ -1,4 +1,7 @@
 // Numbers and bytes as text, there and back.
+
+#![tactic(auto)]
+
 ghost use Rattle.std.specs.Prelude.{◌≡◌, ◌%◌, min, ◌||◌, ltb, length};
 ghost use Rattle.bits.specs.Tests.{pick};
 ghost use Rattle.words.specs.Text.{blank};
@@ -9,14 +12,14 @@ ghost use Rattle.digits.specs.Spelled.{is_digit, most_byte, spelled_number, digi
 const MOST_NUMBER: u64 = 4294967295;
 
 // What a word spells as a number.
-#[derive(Drop)]
+#[derive(Clone, Copy)]
 pub enum Number {
     Is(u32),
     NoNumber,
 }
 
 // What a word spells as bytes: how many they are.
-#[derive(Drop)]
+#[derive(Clone, Copy)]
 pub enum Bytes {
     Are(usize),
     NoBytes,

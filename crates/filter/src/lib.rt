@@ -1,5 +1,8 @@
 // What the search for a block leaves out: sets that an earlier one serves for, and sets on whose pins
 // no table of four pins can be, since the rest tells three of its rows apart.
+
+#![tactic(auto)]
+
 ghost use Rattle.std.specs.Prelude.{◌≡◌, ◌<◌, ◌≤◌, ◌^◌, get_or};
 ghost use Rattle.bits.specs.Bits.{num};
 ghost use Rattle.bits.specs.Tests.{some};
@@ -57,7 +60,7 @@ pub fn support(n: u8, t: &[u8]) -> u16
 }
 
 // Sets in the order of the table of 256, then zeros.
-#[derive(Drop)]
+#[derive(Clone, Copy)]
 pub struct Choices {
     pub sets: [u16; 256],
     pub many: u16,

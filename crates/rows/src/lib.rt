@@ -1,5 +1,8 @@
 // What a truth table holds at a row, and what four pins see of a row. Four pins are one number of
 // four fields, the first pin in the highest.
+
+#![tactic(auto)]
+
 ghost use Rattle.std.specs.Prelude.{◌≡◌, ◌<◌, ◌*◌, ◌/◌, ◌%◌, ◌^◌};
 ghost use Rattle.bits.specs.Bits.{has, split, num};
 ghost use Rattle.block.specs.Value.{pin_value, selected};

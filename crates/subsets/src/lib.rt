@@ -1,4 +1,7 @@
 // The 256 sets of at most four of nine variables, in byte order of their four pin fields.
+
+#![tactic(auto)]
+
 ghost use Rattle.std.specs.Prelude.{◌≡◌};
 ghost use Rattle.subsets.specs.Masks.{masks};
 

@@ -1,1 +1,3 @@
 // The types of block that occur and the most variables of each: no code.
+
+#![tactic(auto)]

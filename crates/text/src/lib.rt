@@ -1,4 +1,7 @@
 // Blocks, refusals and counts as the lines that the programs print.
+
+#![tactic(auto)]
+
 ghost use Rattle.std.specs.Prelude.{◌≡◌, ◌++◌, ◌+◌, ◌<◌, ◌≤◌, ltb, length, take};
 ghost use Rattle.block.specs.Refusal.{number_of};
 ghost use Rattle.codec.specs.Ten.{block_bytes};
@@ -27,7 +30,8 @@ fn put(text: &[u8], out: &mut [u8]) -> Written
     if lacks_room(out.len(), text.len()) {
         return Written::Refused(Refusal::R5);
     }
-    Written::Length(bytes::copy(text, out))
+    out[..text.len()].copy_from_slice(text);
+    Written::Length(text.len())
 }
 
 // The line of a refusal.

@@ -1,4 +1,7 @@
 // The type of a block, from its carried pins alone.
+
+#![tactic(auto)]
+
 ghost use Rattle.std.specs.Prelude.{◌≡◌};
 ghost use Rattle.block.specs.Code.{lut_of, block_of};
 ghost use Rattle.block.specs.Kind.{carries, letter_by, is_shared, digit_of, type_of, letter_code};
@@ -7,7 +10,7 @@ ghost use Rattle.types.specs.Typing.{Types};
 use block::{FourPin, Kind, Letter, MOST_INPUTS, OPEN, Parts, Refusal};
 use codec::Unpacked;
 
-#[derive(Drop)]
+#[derive(Clone, Copy)]
 pub enum Typed {
     Is(Kind),
     Refused(Refusal),

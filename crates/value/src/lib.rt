@@ -1,4 +1,7 @@
 // The value of a block at a row.
+
+#![tactic(auto)]
+
 ghost use Rattle.std.specs.Prelude.{◌≡◌, ◌<◌, ◌≤◌};
 ghost use Rattle.bits.specs.Bits.{row_of};
 ghost use Rattle.block.specs.Code.{lut_of, block_of};
@@ -9,7 +12,7 @@ ghost use Rattle.value.specs.Evaluate.{row_refusal, evaluated_of, Evaluates};
 use block::{FourPin, Parts, Refusal};
 use codec::Unpacked;
 
-#[derive(Drop)]
+#[derive(Clone, Copy)]
 pub enum Evaluated {
     Bit(u8),
     Refused(Refusal),

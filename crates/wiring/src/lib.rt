@@ -1,1 +1,3 @@
 // What a wiring can hold: laws, no code.
+
+#![tactic(auto)]

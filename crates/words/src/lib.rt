@@ -1,25 +1,28 @@
 // The next word of a line, the next line of a text, and words compared.
+
+#![tactic(auto)]
+
 ghost use Rattle.std.specs.Prelude.{◌≡◌, ◌<◌, length};
 ghost use Rattle.bits.specs.Tests.{alike};
 ghost use Rattle.words.specs.Text.{separates};
 ghost use Rattle.words.specs.Next.{belongs, past, ends_cr_lf, line_end, line_next, next_word, next_line};
 
 // A word, from its first byte up to the byte after its last.
-#[derive(Drop)]
+#[derive(Clone, Copy)]
 pub struct Span {
     pub start: usize,
     pub end: usize,
 }
 
 // Where a line ends, and where the next one starts.
-#[derive(Drop)]
+#[derive(Clone, Copy)]
 pub struct Ends {
     pub end: usize,
     pub next: usize,
 }
 
 // What a run of bytes is made of: separators, bytes of a word, or bytes of a line.
-#[derive(Drop)]
+#[derive(Clone, Copy)]
 enum Run {
     Separators,
     Word,
