@@ -1,10 +1,10 @@
 -- The bytes of a slice to which a header is copied, and then the bytes after it. Assumes nothing.
-use mathlib.Core.Path.{◌≡◌, ◌∙◌}
-use mathlib.Core.List.{List, ◌++◌}
+use mathlib.Core.Path.{◌≡◌, sym, ◌∙◌}
+use mathlib.Core.List.{List, ◌++◌, append_assoc}
 use Prim.Native.Nat.{ℕ, ◌+◌, ◌-◌}
 use borrow.Rule.Slice.PartMut.{put_mid}
 use lib.ListN.{length, take, drop}
-use lib.Seq.{take-length}
+use lib.Seq.{take-length, take_at, drop_at, drop-drop}
 use Rattle.bits.proofs.SliceLaws.{filled_on}
 
 -- a front of a bytes is copied to the start of the room, then b bytes to the part after it
@@ -15,3 +15,12 @@ pub both-copied : (front back room headed filled : List ℕ) (a b : ℕ) → len
 both-copied front back room headed filled a b is-a is_b first second =
     let written : headed ≡ front ++ drop a room = first ∙ rw (take-length front, is-a) in
     rw (second, take-length back, is_b) (filled_on headed room front back a b written is-a)
+
+-- the same, each copied to a part of its own length
+pub parts-copied : (front back room headed filled : List ℕ) (a b k : ℕ) → length front ≡ a → k ≡ b
+    → headed ≡ front → filled ≡ back
+    → put_mid a k (headed ++ drop a room) filled ≡ (front ++ back) ++ drop (a + b) room
+parts-copied front back room headed filled a b k is-a is-b first second =
+    let start = take_at front (drop a room) a is-a in
+    let rest = drop_at front (drop a room) a is-a in
+    rw (first, second, is-b, start, rest, drop-drop b a room) (sym (append_assoc front back (drop (a + b) room)))

@@ -1,4 +1,7 @@
 // A record added to a sheet.
+
+#![tactic(auto)]
+
 ghost use Rattle.std.specs.Prelude.{◌≡◌, ◌++◌, ◌%◌, ◌≤◌, eqb, length, drop};
 ghost use Rattle.codec.specs.Ten.{block_bytes};
 ghost use Rattle.record.specs.Record.{record_bytes, header_of, lay_out, record_with};
@@ -79,8 +82,8 @@ fn write_record(room: &mut [u8], x: Numbers, ten: &[u8])
     ensures { room.new ≡ lay_out (record_with x ten.now) ++ drop record_bytes room.old }
 {
     let header = header(x);
-    bytes::copy(&header, room);
-    bytes::copy(ten, &mut room[HEADER_BYTES..]);
+    room[..HEADER_BYTES].copy_from_slice(&header);
+    room[HEADER_BYTES..HEADER_BYTES + ten.len()].copy_from_slice(ten);
 }
 
 // A record is added at the end of the used part.

@@ -1,4 +1,7 @@
 // A sheet's records as lines of text, in columns.
+
+#![tactic(auto)]
+
 ghost use Rattle.std.specs.Prelude.{◌≡◌, ◌++◌, ◌+◌, ◌*◌, ◌<◌, ◌≤◌, length, drop};
 ghost use Rattle.record.specs.Record.{record_bytes, record_of};
 ghost use Rattle.records.specs.Sheet.{most_records, records_of};

@@ -2,18 +2,19 @@
 -- nothing.
 use mathlib.Core.Path.{◌≡◌, refl, sym, ap, ◌∙◌}
 use mathlib.Core.List.{List, [], ◌∷◌, ◌++◌, append-nil}
-use Prim.Native.Nat.{ℕ, ◌/◌, ◌<◌, ◌≤◌}
+use Prim.Native.Nat.{ℕ, ◌*◌, ◌/◌, ◌<◌, ◌≤◌}
 use native.Mathlib.Omega.{arith}
 use borrow.Author.Tests.{le-leb, lt-leb, leb-false, lt-ltb, le-ltb, ltb-false}
 use lib.Dec.{leb, ltb}
 use lib.ListN.{length, take, drop, replicate, length-drop}
 use lib.Seq.{take-length, take_all}
+use Rattle.std.proofs.lemmas.List.{length-take-le}
 use Rattle.block.specs.declared.Refusal.{Refusal}
 use Rattle.block.specs.declared.Refusal.TheVariants.{R5, R12}
 use Rattle.block.specs.Refusal.{◌when◌}
 use Rattle.block.specs.Answer.{Answer, answer, buffer_after}
 use Rattle.block.proofs.RefusalLaws.{at-refusal, number-injective}
-use Rattle.block.proofs.AnswerLaws.{never-refused}
+use Rattle.block.proofs.AnswerLaws.{never-refused, answered-number}
 use Rattle.codec.specs.Ten.{block_bytes}
 use Rattle.record.specs.declared.Numbers.{Numbers}
 use Rattle.record.specs.declared.Told.{Told}
@@ -76,6 +77,17 @@ pub readable-told : (s : List ℕ) (place : ℕ) (t : Told) (x : ℕ) → t ≡ 
 readable-told s place t x is e =
     readable_of s place (value-told t x (read_fault s place) (length (records_of s)) is e).0
 
+-- a record in the sheet is as long as each
+pub record-long : (s : List ℕ) (place : ℕ) → place < length s / record_bytes
+    → length (bytes_at s place) ≡ record_bytes
+record-long s place within =
+    length-take-le record_bytes _ (rw (length-drop (place * record_bytes) s) (omega (arith, within)))
+
+-- bytes copied over the front of a buffer
+pub copied : (xs bytes buffer : List ℕ) (n : ℕ) → xs ≡ bytes → length bytes ≡ n
+    → xs ++ drop n buffer ≡ take (length bytes) bytes ++ drop (length bytes) buffer
+copied xs bytes buffer n same long = rw (take-length bytes, long, same)
+
 -- the ten bytes behind the numbers, copied over other ten
 pub taken-record : (s : List ℕ) (x : Numbers) (ten : List ℕ) → length s ≡ record_bytes → Numbered s x
     → ten
@@ -126,6 +138,14 @@ module _ (s : List ℕ) (place room : ℕ) (readable : Readable s place) where
   unfolding copy_fault
   tells-length enough =
       rw (then-fine (read_fault s place) _ readable.none, le-ltb room record_bytes enough)
+
+-- the same of what reading told
+pub room_short : (s : List ℕ) (place room : ℕ)
+    → (told (read_fault s place) 0 (length (records_of s))).number ≡ 0 → room < record_bytes
+    → answer 5 (placed 0 0) ≡ told (copy_fault s place room) 0 record_bytes
+room_short s place room none short =
+    let number = answered-number (read_fault s place).number (placed (read_fault s place).place 0) _ in
+    refuses-5 s place room (readable_of s place (sym number ∙ none)) short
 
 -- a record that is copied stands in the sheet, and has room
 pub record Copyable (s : List ℕ) (place room : ℕ) : Type 0 where

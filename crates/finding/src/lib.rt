@@ -1,4 +1,7 @@
 // Records of a sheet, found by their number pair or read at their place.
+
+#![tactic(auto)]
+
 ghost use Rattle.std.specs.Prelude.{◌≡◌, length};
 ghost use Rattle.block.specs.Answer.{answer};
 ghost use Rattle.record.specs.Record.{record_bytes, record_of, pair_of};
@@ -10,14 +13,14 @@ use block::{BLOCK_BYTES, Refusal};
 use record::{HEADER_BYTES, Numbers, RECORD_BYTES, Told};
 
 // The numbers of a record, or a refusal and the place of its record.
-#[derive(Drop)]
+#[derive(Clone, Copy)]
 pub enum Header {
     Is(Numbers),
     Refused(Refusal, usize),
 }
 
 // A record as it is read: its numbers and its ten bytes, all 0 after a refusal.
-#[derive(Drop)]
+#[derive(Clone, Copy)]
 pub struct Reading {
     pub header: Header,
     pub ten: [u8; 10],
@@ -73,7 +76,7 @@ fn taken(s: &[u8]) -> Reading
     ensures { reading_of result ≡ answer 0 (placed 0 (record_of s.now)) }
 {
     let mut ten = [0u8; 10];
-    bytes::copy(&s[HEADER_BYTES..RECORD_BYTES], &mut ten);
+    ten.copy_from_slice(&s[HEADER_BYTES..RECORD_BYTES]);
     Reading {
         header: Header::Is(record::numbers_of(s)),
         ten,
@@ -98,6 +101,7 @@ pub fn read(s: &[u8], place: usize) -> Reading
 }
 
 // Whether the record at the place can be copied into so much room.
+#[tactic(auto, using(crate::proofs::ReadLaws::room_short))]
 fn copyable(s: &[u8], place: usize, room: usize) -> Told
     ensures { told_of result ≡ copy_answer s.now place room }
 {
@@ -120,6 +124,6 @@ pub fn copy_out(s: &[u8], place: usize, out: &mut [u8]) -> Told
         return found;
     };
     let a = place * RECORD_BYTES;
-    bytes::copy(&s[a..a + RECORD_BYTES], out);
+    out[..RECORD_BYTES].copy_from_slice(&s[a..a + RECORD_BYTES]);
     found
 }

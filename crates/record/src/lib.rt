@@ -1,4 +1,7 @@
 // One record of the patch sheet: its numbers, its bytes and its faults.
+
+#![tactic(auto)]
+
 ghost use Rattle.std.specs.Prelude.{◌≡◌};
 ghost use Rattle.bits.specs.Tests.{alike};
 ghost use Rattle.block.specs.Refusal.{number_of};
@@ -23,7 +26,7 @@ const MOST_CRAFT: u32 = 65535;
 const MOST_BLOCK: u32 = 4095;
 
 // Spacecraft number, block number and n.
-#[derive(Drop)]
+#[derive(Clone, Copy)]
 pub struct Numbers {
     pub craft: u32,
     pub block: u32,
@@ -31,7 +34,7 @@ pub struct Numbers {
 }
 
 // The answer of an entry about a sheet: a number, or a refusal and the place of its record.
-#[derive(Drop)]
+#[derive(Clone, Copy)]
 pub enum Told {
     Value(usize),
     Refused(Refusal, usize),

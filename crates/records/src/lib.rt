@@ -1,4 +1,7 @@
 // The patch sheet, checked record by record.
+
+#![tactic(auto)]
+
 ghost use Rattle.std.specs.Prelude.{◌≡◌};
 ghost use Rattle.records.specs.Check.{wrong_length, Counts};
 
