@@ -1,4 +1,7 @@
 // One call for a whole build: a slot of eleven bytes for each request.
+
+#![tactic(auto)]
+
 ghost use Rattle.std.specs.Prelude.{◌≡◌, ◌<◌, length};
 ghost use Rattle.block.specs.declared.Written.TheVariants.{Length};
 ghost use Rattle.block.specs.Answer.{written_of};
@@ -29,7 +32,7 @@ fn answer_first(rest: &[u8], slot: &mut [u8]) -> usize
     ensures { AnswersFirst rest.now slot.new result }
 {
     let size = requests::first(rest);
-    bytes::copy(&[0u8; SLOT_BYTES], slot);
+    slot[..SLOT_BYTES].copy_from_slice(&[0u8; SLOT_BYTES]);
     let answer = matcher::first_match(rest[0], &rest[1..size], &mut slot[1..]);
     slot[0] = number_of(answer);
     size
@@ -45,7 +48,7 @@ fn fill(build: &[u8], many: usize, out: &mut [u8]) -> usize
     let mut slot = [0u8; SLOT_BYTES];
     for _ in 0..many {
         at += answer_first(&build[at..], &mut slot);
-        bytes::copy(&slot, &mut out[used..]);
+        out[used..used + SLOT_BYTES].copy_from_slice(&slot);
         used += SLOT_BYTES;
     }
     used

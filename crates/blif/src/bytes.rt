@@ -6,7 +6,7 @@ ghost use Rattle.blif.specs.Part.{in_name};
 ghost use Rattle.blif.specs.Reading.{is_of};
 
 // A byte of a name, or a mark.
-#[derive(Drop)]
+#[derive(Clone, Copy)]
 pub enum Sort {
     Name,
     Mark,

@@ -1,4 +1,7 @@
 // Reads one `.names` part of BLIF.
+
+#![tactic(auto)]
+
 ghost use Rattle.std.specs.Prelude.{◌≡◌, ◌∷◌, ◌&&◌, ◌≤◌, leb, length, drop};
 ghost use Rattle.words.specs.Text.{words_of, content_of};
 ghost use Rattle.blif.specs.Part.{repeats};
@@ -16,20 +19,20 @@ use lines::Gathered;
 pub const TABLE_ROOM: usize = 64;
 
 // n and the length in use, or a refusal.
-#[derive(Drop)]
+#[derive(Clone, Copy)]
 pub enum Cover {
     Table(u8, usize),
     Refused(Refusal),
 }
 
 // The first line with words, by its start and end, and where the next one starts.
-#[derive(Drop)]
+#[derive(Clone, Copy)]
 pub enum Head {
     Line(usize, usize, usize),
     None,
 }
 
-#[derive(Drop)]
+#[derive(Clone, Copy)]
 pub enum Decided {
     Fine,
     Refused(Refusal),

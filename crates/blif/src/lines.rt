@@ -10,7 +10,7 @@ use marks::Rows;
 use words::Span;
 
 // The words of a line: none, wrong in number, or the marks and the output, by their places.
-#[derive(Drop)]
+#[derive(Clone, Copy)]
 pub enum Words {
     Blank,
     Wrong,
@@ -19,7 +19,7 @@ pub enum Words {
 
 // What lines make together: whether all are cover lines, whether some have output 1 and some 0, and
 // the rows that they cover.
-#[derive(Drop)]
+#[derive(Clone, Copy)]
 pub struct Gathered {
     pub good: bool,
     pub ones: bool,

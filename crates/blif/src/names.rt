@@ -9,14 +9,14 @@ use crate::bytes;
 use crate::bytes::Sort;
 
 // Whether every word is a name, and how many there are.
-#[derive(Drop)]
+#[derive(Clone, Copy)]
 pub struct Counted {
     pub good: bool,
     pub many: usize,
 }
 
 // Whether the line opens a part; where its first name is sought, and how many names it has.
-#[derive(Drop)]
+#[derive(Clone, Copy)]
 pub struct Opening {
     pub good: bool,
     pub at: usize,

@@ -1,4 +1,7 @@
 // What the text of a cover comes to: the line of its table, or of a refusal.
+
+#![tactic(auto)]
+
 ghost use Rattle.desk.specs.Desk.{Tells};
 
 use blif::{Cover, TABLE_ROOM};

@@ -1,4 +1,7 @@
 // A function filed as a record of a sheet: its block is found and appended.
+
+#![tactic(auto)]
+
 ghost use Rattle.filing.specs.Table.{FilesTable};
 ghost use Rattle.filing.specs.Cover.{FilesCover};
 

@@ -1,4 +1,7 @@
 // The line that the program prints for a truth table.
+
+#![tactic(auto)]
+
 ghost use Rattle.line.specs.Line.{Says, Lines, Answers};
 
 use block::{Refusal, Written};
@@ -11,7 +14,7 @@ pub const ENOUGH: usize = 66;
 pub const LONGEST: usize = BLOCK_LINE;
 
 // A refusal's number, or 0, and what the writer of the line answers.
-#[derive(Drop)]
+#[derive(Clone, Copy)]
 pub struct Said {
     pub number: u8,
     pub line: Written,

@@ -1,4 +1,7 @@
 // The lines of a build, one for each request.
+
+#![tactic(auto)]
+
 ghost use Rattle.std.specs.Prelude.{◌≡◌, length};
 ghost use Rattle.block.specs.declared.Written.TheVariants.{Length};
 ghost use Rattle.block.specs.Answer.{written_of};

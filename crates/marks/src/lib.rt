@@ -1,4 +1,7 @@
 // The rows that the marks of a cover line cover, 64 to a word, and the table that they make.
+
+#![tactic(auto)]
+
 ghost use Rattle.std.specs.Prelude.{◌≡◌, ◌+◌, ◌-◌, ◌*◌, ◌<◌, ◌≤◌, min, ltb, length, take, drop, get_or};
 ghost use Rattle.bits.specs.Bits.{has, of_rows};
 ghost use Rattle.bits.specs.Tests.{pick};
@@ -10,7 +13,7 @@ ghost use Rattle.marks.specs.Rows.{is_set, painted, rows_table, WritesRows};
 use block::{Refusal, Written};
 
 // 512 rows, row 0 in the most significant bit of the first word.
-#[derive(Drop)]
+#[derive(Clone, Copy)]
 pub struct Rows {
     pub words: [u64; 8],
 }

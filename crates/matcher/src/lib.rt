@@ -1,4 +1,7 @@
 // The first tidy block in byte order that computes a truth table, or that there is none.
+
+#![tactic(auto)]
+
 ghost use Rattle.std.specs.Prelude.{◌≡◌, true, ◌||◌, ◌<◌, ◌≤◌, ◌-◌, ◌%◌, ◌^◌, eqb, length};
 ghost use Rattle.std.specs.Int.Bits.{bit_and, bit_or};
 ghost use Rattle.bits.specs.Bits.{has};
@@ -15,7 +18,7 @@ use codec::Checked;
 use contents::NONE;
 
 // The sets of F and of G, the direct pin's field, and the contents.
-#[derive(Drop)]
+#[derive(Clone, Copy)]
 struct Place {
     f: u16,
     g: u16,
@@ -23,7 +26,7 @@ struct Place {
     contents: u64,
 }
 
-#[derive(Drop)]
+#[derive(Clone, Copy)]
 enum Found {
     At(Place),
     Nothing,

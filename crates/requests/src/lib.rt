@@ -1,4 +1,7 @@
 // A build: requests back to back, one byte n and then its table.
+
+#![tactic(auto)]
+
 ghost use Rattle.std.specs.Prelude.{◌≡◌};
 ghost use Rattle.requests.specs.Requests.{first_bytes, lacks_room};
 ghost use Rattle.requests.specs.Counting.{Walks, Counts};
@@ -6,14 +9,14 @@ ghost use Rattle.requests.specs.Counting.{Walks, Counts};
 use block::Refusal;
 
 // How many requests there are, or the refusal of the whole build.
-#[derive(Drop)]
+#[derive(Clone, Copy)]
 pub enum Counted {
     Many(usize),
     Refused(Refusal),
 }
 
 // Whether a request is broken, and how many there are if none is.
-#[derive(Drop)]
+#[derive(Clone, Copy)]
 struct Walked {
     many: usize,
     broken: bool,
