@@ -5,9 +5,9 @@ ghost use Rattle.std.specs.Prelude.{◌≤◌};
 use crate::{filed, say, words};
 use block::{FourPin, Parts, Written};
 
-fn unknown() {
-    say::byte(b' ');
-    say::byte(b'?');
+fn unknown(rt: &impl Print) {
+    say::byte(rt, b' ');
+    say::byte(rt, b'?');
 }
 
 // Four fields from byte p on, with rows in the two bytes from byte q on.
@@ -36,82 +36,89 @@ fn parts(s: &[u8]) -> Parts {
 }
 
 // The lent buffer is the first part of eleven bytes A5, and all eleven are printed.
-fn pack(n: u8, s: &[u8], room: usize) {
+fn pack(rt: &impl Print, n: u8, s: &[u8], room: usize) {
     if s.len() != 14 {
-        unknown();
+        unknown(rt);
     } else if 11 < room {
-        unknown();
+        unknown(rt);
     } else {
         let mut out = [0xA5u8; 11];
         let answer = codec::pack(n, parts(s), &mut out[0..room]);
-        say::written(answer);
-        say::eleven(&out);
+        say::written(rt, answer);
+        say::eleven(rt, &out);
     }
 }
 
 // The type of the first tidy block that computes the table, and its ten bytes.
-fn first(n: u8, t: &[u8]) {
+fn first(rt: &impl Print, n: u8, t: &[u8]) {
     let mut out = [0u8; 10];
     let answer = matcher::first_match(n, t, &mut out);
     match answer {
         Written::Length(_) => {
-            say::typed(types::type_of(n, &out));
-            say::bytes(&out);
+            say::typed(rt, types::type_of(n, &out));
+            say::bytes(rt, &out);
         }
-        Written::Refused(_) => say::written(answer),
+        Written::Refused(_) => say::written(rt, answer),
     }
 }
 
 // The questions that end in a number.
-fn ask_with(question: &[u8], n: u8, s: &[u8], last: &[u8]) {
+fn ask_with(rt: &impl Print, question: &[u8], n: u8, s: &[u8], last: &[u8]) {
     if !words::is_number(last, 10) {
-        unknown();
+        unknown(rt);
     } else if words::same(question, b"evaluate") {
-        say::evaluated(value::evaluate(n, s, words::number(last)));
+        say::evaluated(rt, value::evaluate(n, s, words::number(last)));
     } else if words::same(question, b"pack") {
-        pack(n, s, words::decimal(last, 12));
+        pack(rt, n, s, words::decimal(last, 12));
     } else {
-        unknown();
+        unknown(rt);
     }
 }
 
-fn ask(question: &[u8], n: u8, s: &[u8], last: &[u8]) {
+fn ask(rt: &impl Print, question: &[u8], n: u8, s: &[u8], last: &[u8]) {
     if 0 < last.len() {
-        ask_with(question, n, s, last);
+        ask_with(rt, question, n, s, last);
     } else if words::same(question, b"check") {
-        say::checked(codec::check(n, s));
+        say::checked(rt, codec::check(n, s));
     } else if words::same(question, b"type") {
-        say::typed(types::type_of(n, s));
+        say::typed(rt, types::type_of(n, s));
     } else if words::same(question, b"match") {
-        first(n, s);
+        first(rt, n, s);
     } else {
-        unknown();
+        unknown(rt);
     }
 }
 
 // n counts as 255 where it is greater; a word of more than 65 bytes counts as 65.
-fn asked(question: &[u8], n: &[u8], given: &[u8], last: &[u8]) {
+fn asked(rt: &impl Print, question: &[u8], n: &[u8], given: &[u8], last: &[u8]) {
     if words::is_number(n, 10) & words::is_bytes(given) {
         let mut data = [0u8; 65];
         let len = words::bytes(given, &mut data);
-        ask(question, words::decimal(n, 255) as u8, &data[0..len], last);
+        ask(
+            rt,
+            question,
+            words::decimal(n, 255) as u8,
+            &data[0..len],
+            last,
+        );
     } else {
-        unknown();
+        unknown(rt);
     }
 }
 
 // The questions that leave the sheet as it is; a line that is none of them may be one about a block.
-fn look(line: &[u8], records: &[u8]) {
+fn look(rt: &impl Print, line: &[u8], records: &[u8]) {
     if filed::asks(line, b"count", 0) {
-        say::told(records::check(records));
+        say::told(rt, records::check(records));
     } else if filed::asks(line, b"find", 2) {
-        filed::find(line, records);
+        filed::find(rt, line, records);
     } else if filed::asks(line, b"place", 2) {
-        filed::place(line, records);
+        filed::place(rt, line, records);
     } else if filed::asks(line, b"read", 1) {
-        filed::read(line, records);
+        filed::read(rt, line, records);
     } else {
         asked(
+            rt,
             words::word(line, 1),
             words::word(line, 2),
             words::word(line, 3),
@@ -121,21 +128,21 @@ fn look(line: &[u8], records: &[u8]) {
 }
 
 // Answers the length of the sheet that is in use then. An empty line asks nothing.
-fn question(line: &[u8], sheet: &mut [u8], used: usize) -> usize {
+fn question(rt: &impl Print, line: &[u8], sheet: &mut [u8], used: usize) -> usize {
     if line.len() == 0 {
         return used;
     }
     if filed::asks_append(line) {
-        return filed::append(line, sheet, used);
+        return filed::append(rt, line, sheet, used);
     }
-    look(line, filed::in_use(sheet, used));
+    look(rt, line, filed::in_use(sheet, used));
     used
 }
 
 // Prints the name and the answer, and answers the length of the sheet that is in use then.
-pub(crate) fn line(line: &[u8], sheet: &mut [u8], used: usize) -> usize {
-    say::text(words::word(line, 0));
-    let now = question(line, sheet, used);
-    say::byte(b'\n');
+pub(crate) fn line(rt: &impl Print, line: &[u8], sheet: &mut [u8], used: usize) -> usize {
+    say::text(rt, words::word(line, 0));
+    let now = question(rt, line, sheet, used);
+    say::byte(rt, b'\n');
     now
 }

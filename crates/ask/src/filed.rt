@@ -40,33 +40,36 @@ fn numbers(line: &[u8]) -> Numbers {
 }
 
 // Answers the length in use then; more than eleven bytes count as eleven.
-pub(crate) fn append(line: &[u8], sheet: &mut [u8], used: usize) -> usize {
+pub(crate) fn append(rt: &impl Print, line: &[u8], sheet: &mut [u8], used: usize) -> usize {
     let mut data = [0u8; 11];
     let len = words::bytes(words::word(line, 5), &mut data);
     let answer = append::append(sheet, used, numbers(line), &data[0..len]);
-    say::told(answer);
+    say::told(rt, answer);
     match answer {
         Told::Value(longer) => longer,
         Told::Refused(_, _) => used,
     }
 }
 
-pub(crate) fn place(line: &[u8], records: &[u8]) {
+pub(crate) fn place(rt: &impl Print, line: &[u8], records: &[u8]) {
     let x = numbers(line);
-    say::told(finding::place_of(records, x.craft, x.block));
+    say::told(rt, finding::place_of(records, x.craft, x.block));
 }
 
 // The ten bytes that are found; where there are none, the refusal.
-pub(crate) fn find(line: &[u8], records: &[u8]) {
+pub(crate) fn find(rt: &impl Print, line: &[u8], records: &[u8]) {
     let x = numbers(line);
     let ten = finding::find(records, x.craft, x.block);
     if 0 < ten.len() {
-        say::bytes(ten);
+        say::bytes(rt, ten);
     } else {
-        place(line, records);
+        place(rt, line, records);
     }
 }
 
-pub(crate) fn read(line: &[u8], records: &[u8]) {
-    say::reading(finding::read(records, words::number(words::word(line, 2)) as usize));
+pub(crate) fn read(rt: &impl Print, line: &[u8], records: &[u8]) {
+    say::reading(
+        rt,
+        finding::read(records, words::number(words::word(line, 2)) as usize),
+    );
 }

@@ -2,117 +2,121 @@
 use block::{Refusal, Written};
 use codec::Checked;
 use finding::{Header, Reading};
-use libc::{STDERR_FILENO, STDOUT_FILENO};
 use record::Told;
 use types::Typed;
 use value::Evaluated;
 
-pub(crate) fn unreadable() {
-    io::write_all(STDERR_FILENO, b"ask: standard input could not be read\n");
+// What cannot be written is let go, here and below.
+pub(crate) fn unreadable(rt: &impl Eprint) {
+    let _ = rt.eprint("ask: standard input could not be read\n");
 }
 
-pub(crate) fn too_long() {
-    io::write_all(STDERR_FILENO, b"ask: more than 49,151 bytes of questions\n");
+pub(crate) fn too_long(rt: &impl Eprint) {
+    let _ = rt.eprint("ask: more than 49,151 bytes of questions\n");
 }
 
-pub(crate) fn text(text: &[u8]) {
-    io::write_all(STDOUT_FILENO, text);
+pub(crate) fn text(rt: &impl Print, text: &[u8]) {
+    let _ = rt.write_all(text);
 }
 
-pub(crate) fn byte(x: u8) {
-    text(&[x]);
+pub(crate) fn byte(rt: &impl Print, x: u8) {
+    text(rt, &[x]);
 }
 
-fn number(x: u64) {
-    byte(b' ');
-    io::print_decimal(STDOUT_FILENO, x);
+fn decimal(rt: &impl Print, x: u64) {
+    let _ = rt.print(x);
 }
 
-fn refusal(k: Refusal) {
-    byte(b' ');
-    byte(b'R');
-    number(block::number(k) as u64);
+fn number(rt: &impl Print, x: u64) {
+    byte(rt, b' ');
+    decimal(rt, x);
 }
 
-fn refusal_at(k: Refusal, place: usize) {
-    refusal(k);
-    number(place as u64);
+fn refusal(rt: &impl Print, k: Refusal) {
+    byte(rt, b' ');
+    byte(rt, b'R');
+    number(rt, block::number(k) as u64);
 }
 
-pub(crate) fn checked(answer: Checked) {
+fn refusal_at(rt: &impl Print, k: Refusal, place: usize) {
+    refusal(rt, k);
+    number(rt, place as u64);
+}
+
+pub(crate) fn checked(rt: &impl Print, answer: Checked) {
     match answer {
-        Checked::Fine => number(0),
-        Checked::Refused(k) => refusal(k),
+        Checked::Fine => number(rt, 0),
+        Checked::Refused(k) => refusal(rt, k),
     }
 }
 
-pub(crate) fn evaluated(answer: Evaluated) {
+pub(crate) fn evaluated(rt: &impl Print, answer: Evaluated) {
     match answer {
-        Evaluated::Bit(v) => number(v as u64),
-        Evaluated::Refused(k) => refusal(k),
+        Evaluated::Bit(v) => number(rt, v as u64),
+        Evaluated::Refused(k) => refusal(rt, k),
     }
 }
 
-pub(crate) fn written(answer: Written) {
+pub(crate) fn written(rt: &impl Print, answer: Written) {
     match answer {
-        Written::Length(used) => number(used as u64),
-        Written::Refused(k) => refusal(k),
+        Written::Length(used) => number(rt, used as u64),
+        Written::Refused(k) => refusal(rt, k),
     }
 }
 
-pub(crate) fn told(answer: Told) {
+pub(crate) fn told(rt: &impl Print, answer: Told) {
     match answer {
-        Told::Value(value) => number(value as u64),
-        Told::Refused(k, place) => refusal_at(k, place),
+        Told::Value(value) => number(rt, value as u64),
+        Told::Refused(k, place) => refusal_at(rt, k, place),
     }
 }
 
-pub(crate) fn typed(answer: Typed) {
+pub(crate) fn typed(rt: &impl Print, answer: Typed) {
     match answer {
         Typed::Is(k) => {
             let l = k.letter;
-            byte(b' ');
-            byte(types::letter_code(l));
-            byte(b'-');
-            io::print_decimal(STDOUT_FILENO, k.digit as u64);
+            byte(rt, b' ');
+            byte(rt, types::letter_code(l));
+            byte(rt, b'-');
+            decimal(rt, k.digit as u64);
         }
-        Typed::Refused(k) => refusal(k),
+        Typed::Refused(k) => refusal(rt, k),
     }
 }
 
-fn digit(x: u8) {
+fn digit(rt: &impl Print, x: u8) {
     let d = x % 16;
-    byte(48 + d + d / 10 * 7);
+    byte(rt, 48 + d + d / 10 * 7);
 }
 
-fn hexadecimal(s: &[u8]) {
+fn hexadecimal(rt: &impl Print, s: &[u8]) {
     for i in 0..s.len() {
-        digit(s[i] / 16);
-        digit(s[i]);
+        digit(rt, s[i] / 16);
+        digit(rt, s[i]);
     }
 }
 
 // Bytes in hexadecimal capitals.
-pub(crate) fn bytes(s: &[u8]) {
-    byte(b' ');
-    hexadecimal(s);
+pub(crate) fn bytes(rt: &impl Print, s: &[u8]) {
+    byte(rt, b' ');
+    hexadecimal(rt, s);
 }
 
-pub(crate) fn eleven(s: &[u8; 11]) {
-    bytes(s);
+pub(crate) fn eleven(rt: &impl Print, s: &[u8; 11]) {
+    bytes(rt, s);
 }
 
 // The numbers of a record and its ten bytes.
-pub(crate) fn reading(answer: Reading) {
+pub(crate) fn reading(rt: &impl Print, answer: Reading) {
     let header = answer.header;
     let ten = answer.ten;
     match header {
         Header::Is(x) => {
-            number(x.craft as u64);
-            number(x.block as u64);
-            number(x.n as u64);
-            bytes(&ten);
+            number(rt, x.craft as u64);
+            number(rt, x.block as u64);
+            number(rt, x.n as u64);
+            bytes(rt, &ten);
         }
-        Header::Refused(k, place) => refusal_at(k, place),
+        Header::Refused(k, place) => refusal_at(rt, k, place),
     }
 }

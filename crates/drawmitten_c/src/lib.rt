@@ -1,4 +1,7 @@
 // The entries for C. A slice is a pointer and then a length.
+
+#![tactic(auto)]
+
 ghost use Rattle.std.specs.Prelude.{◌≡◌, ◌≤◌};
 ghost use Rattle.block.specs.Code.{lut_of};
 ghost use Rattle.record.specs.Record.{offered};

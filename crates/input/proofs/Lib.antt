@@ -1,2 +1,3 @@
 -- The laws of input. Assumes nothing.
+pub mod BytesLaws
 pub mod RoomLaws

@@ -1,10 +1,9 @@
 -- Input that was read whole ends within its buffer. Assumes nothing.
-use mathlib.Core.Path.{◌≡◌}
-use Prim.Native.Nat.{ℕ, ◌<◌}
+use Rattle.std.specs.Prelude.{◌≡◌, ℕ, ◌<◌}
 use Rattle.input.specs.declared.Input.{Input}
 use Rattle.input.specs.declared.Input.TheVariants.{Whole}
 use Rattle.input.specs.Input.{LeavesRoom}
 
-pub whole-within : (r : Input) (used room : ℕ) → r ≡ Whole used → LeavesRoom r room → used < room
+pub whole_within : (r : Input) (used room : ℕ) → r ≡ Whole used → LeavesRoom r room → used < room
 unfolding LeavesRoom
-whole-within r used room is left = rw is at left
+whole_within r used room is left = rw is at left

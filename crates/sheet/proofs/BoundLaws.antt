@@ -1,11 +1,7 @@
 -- A length that adding tells is within the sheet's buffer. Assumes nothing.
-use mathlib.Core.Path.{◌≡◌}
-use mathlib.Core.List.{List}
-use Prim.Native.Nat.{ℕ, ◌≤◌}
-use lib.ListN.{length}
+use Rattle.std.specs.Prelude.{◌≡◌, ℕ, ◌≤◌, List, length}
 use Rattle.record.specs.declared.Told.{Told}
 use Rattle.record.specs.declared.Told.TheVariants.{Value}
-use Rattle.append.specs.Append.{Appends}
 use Rattle.filing.proofs.WithinLaws.{appends-within, files-cover-within}
 use Rattle.sheet.specs.declared.Offer.{Offer}
 use Rattle.sheet.specs.declared.Offer.TheVariants.{Block, Cover}

@@ -1,4 +1,7 @@
 // Keeps patch sheets as files: checks and lists them, reads, finds and adds records (README, "Sheets").
+
+#![tactic(auto)]
+
 mod file;
 mod say;
 
@@ -9,9 +12,11 @@ use columns::RECORD_LINE;
 use digits::{Bytes, Number};
 use file::SHEET_ROOM;
 use input::Input;
-use libc::STDIN_FILENO;
 use record::{Numbers, Told};
 use records::MOST_RECORDS;
+use std::env::FillError;
+use std::io;
+use std::rt::{Env, Files};
 
 // The longest name of a file, so that `.new` has room after it.
 const LONGEST_NAME: usize = 4091;
@@ -35,42 +40,49 @@ fn text_room() -> [u8; TEXT_ROOM]
     [0; TEXT_ROOM]
 }
 
-fn check(s: &[u8]) {
+// Room for a word of the command.
+fn word_room() -> [u8; 4096]
+    ensures { 4096 ≡ length result }
+{
+    [0; 4096]
+}
+
+fn check(rt: &(impl Print + Eprint), s: &[u8]) {
     let told = records::check(s);
     match told {
-        Told::Value(count) => say::count(count),
-        Told::Refused(k, place) => say::refusal(k, place),
+        Told::Value(count) => say::count(rt, count),
+        Told::Refused(k, place) => say::refusal(rt, k, place),
     }
 }
 
-fn list(s: &[u8]) {
+fn list(rt: &(impl Print + Eprint), s: &[u8]) {
     let mut out = list_room();
     let told = columns::of_sheet(s, &mut out);
     match told {
-        Told::Value(used) => say::print(&out[0..used]),
-        Told::Refused(k, place) => say::refusal(k, place),
+        Told::Value(used) => say::print(rt, &out[0..used]),
+        Told::Refused(k, place) => say::refusal(rt, k, place),
     }
 }
 
-fn show(s: &[u8], place: usize) {
+fn show(rt: &(impl Print + Eprint), s: &[u8], place: usize) {
     let mut out = [0u8; RECORD_LINE];
     let told = columns::of_place(s, place, &mut out);
     match told {
-        Told::Value(used) => say::print(&out[0..used]),
-        Told::Refused(k, at) => say::refusal(k, at),
+        Told::Value(used) => say::print(rt, &out[0..used]),
+        Told::Refused(k, at) => say::refusal(rt, k, at),
     }
 }
 
-fn find(s: &[u8], craft: u32, block: u32) {
+fn find(rt: &(impl Print + Eprint), s: &[u8], craft: u32, block: u32) {
     let told = finding::place_of(s, craft, block);
     match told {
-        Told::Value(place) => show(s, place),
-        Told::Refused(k, place) => say::refusal(k, place),
+        Told::Value(place) => show(rt, s, place),
+        Told::Refused(k, place) => say::refusal(rt, k, place),
     }
 }
 
 // What is asked of a sheet.
-#[derive(Drop)]
+#[derive(Clone, Copy)]
 enum Question {
     Check,
     List,
@@ -78,41 +90,40 @@ enum Question {
     Find(u32, u32),
 }
 
-fn answer(question: Question, s: &[u8]) {
+fn answer(rt: &(impl Print + Eprint), question: Question, s: &[u8]) {
     match question {
-        Question::Check => check(s),
-        Question::List => list(s),
-        Question::At(place) => show(s, place),
-        Question::Find(craft, block) => find(s, craft, block),
+        Question::Check => check(rt, s),
+        Question::List => list(rt, s),
+        Question::At(place) => show(rt, s, place),
+        Question::Find(craft, block) => find(rt, s, craft, block),
     }
 }
 
 // Answers from the file that argument 2 names. A file that is too long for a sheet is as long as the
 // buffer, which is one byte too many, and is refused so.
-fn look(question: Question) {
-    let mut name = io::buffer();
-    let long = os::arg(2, &mut name);
-    if os::errno() != 0 {
-        say::long_name();
+fn look(rt: &(impl Env + Files + Print + Eprint), question: Question) {
+    let mut name = word_room();
+    let Ok(long) = rt.arg(2, &mut name) else {
+        say::long_name(rt);
         return;
-    }
+    };
     let mut sheet = file::room();
-    let got = file::read(&name[..long], &mut sheet);
+    let got = file::read(rt, &name[..long], &mut sheet);
     match got {
-        Input::Whole(used) => answer(question, &sheet[0..used]),
-        Input::Longer => answer(question, &sheet),
-        Input::Failed => {}
+        Input::Whole(used) => answer(rt, question, &sheet[0..used]),
+        Input::Longer => answer(rt, question, &sheet),
+        Input::Failed(_) => {}
     }
 }
 
 // What is added under a number pair: a block of n inputs, or what a cover comes to.
-#[derive(Drop)]
+#[derive(Clone, Copy)]
 pub enum Offer {
     Block(u8),
     Cover,
 }
 
-#[derive(Drop)]
+#[derive(Clone, Copy)]
 pub struct Order {
     pub craft: u32,
     pub block: u32,
@@ -133,10 +144,11 @@ fn append_to(sheet: &mut [u8], used: usize, order: Order, given: &[u8]) -> Told
 }
 
 // Adds the record, keeps the longer sheet and shows the record; a refusal leaves the file as it was.
-fn add_record(
+fn add_record<R: Files + Print + Eprint>(
+    rt: &R,
     path: &[u8],
     new: &[u8],
-    fd: i32,
+    file: R::File,
     sheet: &mut [u8],
     used: usize,
     order: Order,
@@ -145,83 +157,86 @@ fn add_record(
     let told = append_to(sheet, used, order, given);
     match told {
         Told::Value(longer) => {
-            if file::keep(fd, path, new, &sheet[0..longer]) {
-                find(&sheet[0..longer], order.craft, order.block);
+            if file::keep(rt, file, path, new, &sheet[0..longer]) {
+                find(rt, &sheet[0..longer], order.craft, order.block);
             }
         }
         Told::Refused(k, place) => {
-            file::discard(fd, new);
-            say::refusal(k, place);
+            file::discard(rt, file, new);
+            say::refusal(rt, k, place);
         }
     }
 }
 
 // The new file is made before the old one is read, so that no other add comes between.
-fn add_to(path: &[u8], new: &[u8], order: Order, given: &[u8]) {
-    let fd = file::create(new);
-    if fd < 0 {
+fn add_to(rt: &(impl Files + Print + Eprint), path: &[u8], new: &[u8], order: Order, given: &[u8]) {
+    let Some(file) = file::create(rt, new) else {
         return;
-    }
+    };
     let mut sheet = file::room();
-    let got = file::read(path, &mut sheet);
+    let got = file::read(rt, path, &mut sheet);
     match got {
-        Input::Whole(used) => add_record(path, new, fd, &mut sheet, used, order, given),
-        Input::Longer => add_record(path, new, fd, &mut sheet, SHEET_ROOM, order, given),
-        Input::Failed => file::discard(fd, new),
+        Input::Whole(used) => add_record(rt, path, new, file, &mut sheet, used, order, given),
+        Input::Longer => add_record(rt, path, new, file, &mut sheet, SHEET_ROOM, order, given),
+        Input::Failed(_) => file::discard(rt, file, new),
     }
 }
 
 // Adds to the file that argument 2 names. The new sheet is written beside it, in FILE.new.
-fn add(order: Order, given: &[u8]) {
-    let mut path = io::buffer();
-    let length = os::arg(2, &mut path);
-    if os::errno() != 0 {
-        say::long_name();
+fn add(rt: &(impl Env + Files + Print + Eprint), order: Order, given: &[u8]) {
+    let mut path = word_room();
+    let Ok(length) = rt.arg(2, &mut path) else {
+        say::long_name(rt);
         return;
-    }
-    let mut new = io::buffer();
-    let end = os::arg(2, &mut new);
+    };
+    let mut new = word_room();
+    let end = rt.arg(2, &mut new).unwrap_or(0);
     if LONGEST_NAME < end {
-        say::long_name();
+        say::long_name(rt);
         return;
     }
     new[end] = b'.';
     new[end + 1] = b'n';
     new[end + 2] = b'e';
     new[end + 3] = b'w';
-    add_to(&path[..length], &new[..end + 4], order, given);
+    add_to(rt, &path[..length], &new[..end + 4], order, given);
 }
 
 // The number that argument i spells.
-fn number(i: usize) -> Number {
-    let mut word = io::buffer();
-    let length = os::arg(i, &mut word);
-    if os::errno() != 0 {
+fn number(rt: &impl Env, i: usize) -> Number {
+    let mut word = word_room();
+    let Ok(length) = rt.arg(i, &mut word) else {
         return Number::NoNumber;
-    }
+    };
     digits::number_in(&word[..length])
 }
 
-fn add_cover(craft: u32, block: u32) {
+fn add_cover(rt: &(impl Env + Files + io::Input + Print + Eprint), craft: u32, block: u32) {
     let mut text = text_room();
-    let got = input::read(STDIN_FILENO, &mut text);
+    let got = input::read(&mut rt.reader(), &mut text);
     let order = Order {
         craft,
         block,
         offer: Offer::Cover,
     };
     match got {
-        Input::Whole(used) => add(order, &text[0..used]),
-        Input::Longer => say::complain(b"sheet: the cover is longer than 1,048,576 bytes\n"),
-        Input::Failed => os::fail(b"sheet: the cover could not be read"),
+        Input::Whole(used) => add(rt, order, &text[0..used]),
+        Input::Longer => say::complain(rt, "sheet: the cover is longer than 1,048,576 bytes\n"),
+        Input::Failed(why) => say::fail(rt, "sheet: the cover could not be read", why),
     }
 }
 
 // The word is TEN as it was given.
-fn add_bytes(craft: u32, block: u32, n: u8, word: &mut [u8]) {
+fn add_bytes(
+    rt: &(impl Env + Files + Print + Eprint),
+    craft: u32,
+    block: u32,
+    n: u8,
+    word: &mut [u8],
+) {
     let spelled = digits::bytes_in(word);
     let Bytes::Are(many) = spelled else {
-        say::no_bytes();
+        say::no_bytes(rt);
         return;
     };
     let order = Order {
@@ -229,73 +244,84 @@ fn add_bytes(craft: u32, block: u32, n: u8, word: &mut [u8]) {
         block,
         offer: Offer::Block(n),
     };
-    add(order, &word[..many]);
+    add(rt, order, &word[..many]);
 }
 
-fn add_block(craft: u32, block: u32) {
-    let inputs = number(5);
+fn add_block(rt: &(impl Env + Files + Print + Eprint), craft: u32, block: u32) {
+    let inputs = number(rt, 5);
     let Number::Is(n) = inputs else {
-        say::complain(b"sheet: N is no number: give up to 4,096 decimal digits\n");
+        say::complain(
+            rt,
+            "sheet: N is no number: give up to 4,096 decimal digits\n",
+        );
         return;
     };
-    let mut ten = io::buffer();
-    let length = os::arg(6, &mut ten);
-    if os::errno() != 0 {
-        say::no_bytes();
+    let mut ten = word_room();
+    let Ok(length) = rt.arg(6, &mut ten) else {
+        say::no_bytes(rt);
         return;
-    }
-    add_bytes(craft, block, digits::byte_of(n), &mut ten[..length]);
+    };
+    add_bytes(rt, craft, block, digits::byte_of(n), &mut ten[..length]);
 }
 
 // A number pair, or what is none.
-#[derive(Drop)]
+#[derive(Clone, Copy)]
 enum Pair {
     Of(u32, u32),
     NoPair,
 }
 
 // The number pair that arguments 3 and 4 spell.
-fn number_pair() -> Pair {
-    let first = number(3);
+fn number_pair(rt: &(impl Env + Eprint)) -> Pair {
+    let first = number(rt, 3);
     let Number::Is(craft) = first else {
-        say::complain(b"sheet: CRAFT is no number: give up to 4,096 decimal digits\n");
+        say::complain(
+            rt,
+            "sheet: CRAFT is no number: give up to 4,096 decimal digits\n",
+        );
         return Pair::NoPair;
     };
-    let second = number(4);
+    let second = number(rt, 4);
     let Number::Is(block) = second else {
-        say::complain(b"sheet: BLOCK is no number: give up to 4,096 decimal digits\n");
+        say::complain(
+            rt,
+            "sheet: BLOCK is no number: give up to 4,096 decimal digits\n",
+        );
         return Pair::NoPair;
     };
     Pair::Of(craft, block)
 }
 
-fn obey_at() {
-    let asked = number(3);
+fn obey_at(rt: &(impl Env + Files + Print + Eprint)) {
+    let asked = number(rt, 3);
     match asked {
-        Number::Is(place) => look(Question::At(place as usize)),
+        Number::Is(place) => look(rt, Question::At(place as usize)),
         Number::NoNumber => {
-            say::complain(b"sheet: PLACE is no number: give up to 4,096 decimal digits\n")
+            say::complain(
+                rt,
+                "sheet: PLACE is no number: give up to 4,096 decimal digits\n",
+            )
         }
     }
 }
 
-fn obey_find() {
-    let asked = number_pair();
+fn obey_find(rt: &(impl Env + Files + Print + Eprint)) {
+    let asked = number_pair(rt);
     match asked {
-        Pair::Of(craft, block) => look(Question::Find(craft, block)),
+        Pair::Of(craft, block) => look(rt, Question::Find(craft, block)),
         Pair::NoPair => {}
     }
 }
 
 // With N and TEN, or with a cover.
-fn obey_add(with_block: bool) {
-    let asked = number_pair();
+fn obey_add(rt: &(impl Env + Files + io::Input + Print + Eprint), with_block: bool) {
+    let asked = number_pair(rt);
     match asked {
         Pair::Of(craft, block) => {
             if with_block {
-                add_block(craft, block);
+                add_block(rt, craft, block);
             } else {
-                add_cover(craft, block);
+                add_cover(rt, craft, block);
             }
         }
         Pair::NoPair => {}
@@ -303,24 +329,34 @@ fn obey_add(with_block: bool) {
 }
 
 // Obeys a command that has so many words, the program's name among them.
-fn obey(command: &[u8], words: usize) {
+fn obey(rt: &(impl Env + Files + io::Input + Print + Eprint), command: &[u8], words: usize) {
     if words::same(command, b"check") & (words == 3) {
-        look(Question::Check);
+        look(rt, Question::Check);
     } else if words::same(command, b"list") & (words == 3) {
-        look(Question::List);
+        look(rt, Question::List);
     } else if words::same(command, b"at") & (words == 4) {
-        obey_at();
+        obey_at(rt);
     } else if words::same(command, b"find") & (words == 5) {
-        obey_find();
+        obey_find(rt);
     } else if words::same(command, b"add") & ((words == 5) | (words == 7)) {
-        obey_add(words == 7);
+        obey_add(rt, words == 7);
     } else {
-        say::help();
+        say::help(rt);
     }
 }
 
-fn main() {
-    let mut command = io::buffer();
-    let length = os::arg(1, &mut command);
-    obey(&command[..length], os::arg_count());
+// How many words there are, up to eight, the program's name among them.
+fn word_count(rt: &impl Env) -> usize {
+    for i in 0..8 {
+        if matches!(rt.arg(i, &mut []), Err(FillError::NotPresent)) {
+            return i;
+        }
+    }
+    8
+}
+
+fn main(rt: HostRuntime) {
+    let mut command = word_room();
+    let length = rt.arg(1, &mut command).unwrap_or(0);
+    obey(&rt, &command[..length], word_count(&rt));
 }
