@@ -31,7 +31,7 @@ fn main() {
     let calls = header::declarations(&text).unwrap_or_else(|wrong| panic!("{wrong}"));
     let written = PathBuf::from(given("OUT_DIR")).join("calls.rs");
     fs::write(written, calls).expect("the declarations are written");
-    link(&root.join("target/staticlib"), "drawmitten_c");
+    link(&root.join("crates/drawmitten_c/out"), "drawmitten_c");
     println!("cargo:rerun-if-env-changed=TRIAL");
     if env::var_os("CARGO_FEATURE_TRIAL").is_some() {
         link(Path::new(&given("TRIAL")), "quick");

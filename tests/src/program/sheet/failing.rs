@@ -8,7 +8,7 @@ use crate::program::sheet::made::{add_cover, command, Command, Maker, NAME, NEW}
 use crate::program::sheet::outputs::unheard;
 use crate::program::sheet::second::{complaint, Said, Wanted};
 use crate::program::sheet::sentences::{failed, meaning};
-use crate::program::sheet::sentences::{FOLDER_NOT_FLUSHED, FOLDER_NOT_OPENED, NOT_CLOSED};
+use crate::program::sheet::sentences::{FOLDER_NOT_FLUSHED, FOLDER_NOT_OPENED};
 use crate::program::sheet::sentences::{NOT_FLUSHED, NOT_MADE, NOT_NAMED, NOT_OPENED};
 use crate::program::sheet::sentences::{NOT_READ, NOT_REMOVED, NOT_WRITTEN};
 use crate::sheets::made::sheet;
@@ -26,7 +26,7 @@ const READING: [(&str, &str); 4] = [
 
 /// Calls that fail while a longer sheet is kept; 13, 18 and 30 are that it may not be, that it is
 /// another disk, and that nothing can be written there; 28 and 122 are a full disk and a full share.
-const KEEPING: [(&str, &str); 13] = [
+const KEEPING: [(&str, &str); 11] = [
     ("create 1 13", NOT_MADE),
     ("create 1 24", NOT_MADE),
     ("create 1 28", NOT_MADE),
@@ -34,13 +34,14 @@ const KEEPING: [(&str, &str); 13] = [
     ("write 1 5", NOT_WRITTEN),
     ("fsync 1 5", NOT_FLUSHED),
     ("fsync 1 28", NOT_FLUSHED),
-    ("close 1 5", NOT_CLOSED),
-    ("close 1 122", NOT_CLOSED),
     ("rename 1 5", NOT_NAMED),
     ("rename 1 13", NOT_NAMED),
     ("rename 1 18", NOT_NAMED),
     ("rename 1 30", NOT_NAMED),
 ];
+
+/// Closing that fails once what was written is on disk: nothing asks for what it answers.
+const CLOSING: [&str; 2] = ["close 1 5", "close 1 122"];
 
 /// The same where writing fails once some is written.
 const WRITING: [(&str, &str); 2] = [("write 2 28", NOT_WRITTEN), ("write 3 5", NOT_WRITTEN)];
@@ -59,9 +60,8 @@ const UNWRITTEN: [(&str, &str); 3] = [
     ("read 1 5", NOT_READ),
     ("write 1 28", NOT_WRITTEN),
 ];
-const WRITTEN: [(&str, &str); 3] = [
+const WRITTEN: [(&str, &str); 2] = [
     ("fsync 1 5", NOT_FLUSHED),
-    ("close 1 122", NOT_CLOSED),
     ("rename 1 30", NOT_NAMED),
 ];
 
@@ -176,6 +176,15 @@ impl Failing<'_> {
             for (calls, said) in FLUSHING {
                 let (settings, said) = ([failing(calls)], told((calls, said)));
                 self.case(command, &settings, |run| saying(run, &[&said]));
+            }
+        }
+    }
+
+    /// Closing that fails once what was written is on disk: the record is added.
+    fn closing(&mut self) {
+        for command in &additions() {
+            for calls in CLOSING {
+                self.case(command, &[failing(calls)], |run| run);
             }
         }
     }
@@ -325,6 +334,7 @@ pub fn all(maker: &mut Maker, folder: &str) {
     };
     failing.before();
     failing.after();
+    failing.closing();
     failing.short();
     failing.in_order();
     failing.in_order_inside();

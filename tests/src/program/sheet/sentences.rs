@@ -61,7 +61,6 @@ pub const THERE: &str =
 pub const NOT_MADE: &str = "sheet: FILE.new could not be made:";
 pub const NOT_WRITTEN: &str = "sheet: FILE.new could not be written:";
 pub const NOT_FLUSHED: &str = "sheet: FILE.new could not be flushed to disk:";
-pub const NOT_CLOSED: &str = "sheet: FILE.new could not be closed:";
 pub const NOT_NAMED: &str = "sheet: FILE.new could not be given the name FILE:";
 pub const NOT_REMOVED: &str = "sheet: FILE.new could not be removed:";
 
