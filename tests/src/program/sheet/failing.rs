@@ -40,8 +40,19 @@ const KEEPING: [(&str, &str); 11] = [
     ("rename 1 30", NOT_NAMED),
 ];
 
-/// Closing that fails once what was written is on disk: nothing asks for what it answers.
-const CLOSING: [&str; 2] = ["close 1 5", "close 1 122"];
+/// Closing that fails once what was written is on disk: nothing asks for what it answers. FILE.new is
+/// not given up, so that its removal, which would fail, is not asked for either.
+const CLOSING: [&str; 3] = ["close 1 5", "close 1 122", "close 1 122 unlink 1 13"];
+
+/// Calls that a signal interrupts, 4: each is made again.
+const INTERRUPTED: [&str; 6] = [
+    "create 1 4",
+    "open 1 4",
+    "write 1 4",
+    "fsync 1 4",
+    "open-folder 1 4",
+    "fsync-folder 1 4",
+];
 
 /// The same where writing fails once some is written.
 const WRITING: [(&str, &str); 2] = [("write 2 28", NOT_WRITTEN), ("write 3 5", NOT_WRITTEN)];
@@ -60,10 +71,7 @@ const UNWRITTEN: [(&str, &str); 3] = [
     ("read 1 5", NOT_READ),
     ("write 1 28", NOT_WRITTEN),
 ];
-const WRITTEN: [(&str, &str); 2] = [
-    ("fsync 1 5", NOT_FLUSHED),
-    ("rename 1 30", NOT_NAMED),
-];
+const WRITTEN: [(&str, &str); 2] = [("fsync 1 5", NOT_FLUSHED), ("rename 1 30", NOT_NAMED)];
 
 /// The call that removes FILE.new fails.
 const REMOVING: (&str, &str) = ("unlink 1 13", NOT_REMOVED);
@@ -180,10 +188,21 @@ impl Failing<'_> {
         }
     }
 
-    /// Closing that fails once what was written is on disk: the record is added.
+    /// Closing that fails once what was written is on disk: the record is added, also where nothing
+    /// reads standard error.
     fn closing(&mut self) {
         for command in &additions() {
             for calls in CLOSING {
+                self.case(command, &[failing(calls)], |run| run);
+                self.case(command, &[failing(calls)], unheard);
+            }
+        }
+    }
+
+    /// Calls that are interrupted: the record is added.
+    fn interrupted(&mut self) {
+        for command in &additions() {
+            for calls in INTERRUPTED {
                 self.case(command, &[failing(calls)], |run| run);
             }
         }
@@ -335,6 +354,7 @@ pub fn all(maker: &mut Maker, folder: &str) {
     failing.before();
     failing.after();
     failing.closing();
+    failing.interrupted();
     failing.short();
     failing.in_order();
     failing.in_order_inside();

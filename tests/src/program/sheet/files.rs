@@ -69,6 +69,26 @@ pub fn works(
     }
 }
 
+/// A script that starts the program with a byte after the second word, the file's name, by which it is
+/// no UTF-8.
+const NOT_TEXT: [&str; 3] = [
+    "sh",
+    "-c",
+    "first=$1 name=$2 && shift 2 && exec \"$0\" \"$first\" \"$name$(printf '\\377')\" \"$@\"",
+];
+
+/// Names that are no UTF-8: such a file is not asked for, and none is made.
+fn no_text(maker: &mut Maker) {
+    for (commands, said) in [(readings(), NOT_OPENED), (additions(), NOT_MADE)] {
+        for command in commands {
+            let place = maker.place();
+            let said = format!("{said} The name is not UTF-8");
+            let run = command.run(&place.put(NAME, &two()), complaint(&said));
+            maker.case(place, vec![run.started(&NOT_TEXT)]);
+        }
+    }
+}
+
 /// Files that are not there, folders, and links that lead nowhere.
 fn missing(maker: &mut Maker) {
     let link = |place: &Place, to: &str| {
@@ -167,6 +187,7 @@ fn strange(maker: &mut Maker) {
 /// Every case about files.
 pub fn all(maker: &mut Maker) {
     missing(maker);
+    no_text(maker);
     links(maker);
     there_already(maker);
     strange(maker);

@@ -4,13 +4,9 @@
 use crate::program::judge::{asked, described, each};
 use crate::program::run::{run, Input, Left, Output};
 use crate::program::sheet::folder::{difference, things, Thing, Things};
-use crate::program::sheet::made::NEW;
 use crate::program::sheet::second::{Said, Wanted};
 use crate::program::sheet::sentences::{is_said, HELP};
 use std::fs;
-
-/// The number of the signal that ends a program which writes where nothing reads.
-const SIGPIPE: i32 = 13;
 
 /// What nothing that is printed or said may have in it: names of files and of signals have it.
 pub const SECRET: &str = "SECRET";
@@ -78,23 +74,6 @@ fn changed(mut before: Things, one: &Run) -> Things {
     before
 }
 
-/// Whether a run was ended because nothing reads an output of it, before it wrote to the other or after
-/// it wrote there what it must.
-fn is_cut(one: &Run, left: &Left) -> bool {
-    let ended = matches!(one.output, Output::Broken) && left.end == -SIGPIPE;
-    let right = left.errors.is_empty() || tells(&left.errors, &one.wanted.said);
-    ended && right && left.output.is_empty()
-}
-
-/// The difference after a run that was ended: its file must be as it was or as it must become, and
-/// FILE.new may be left.
-fn cut(mut are: Things, before: &Things, wanted: &Things) -> Option<String> {
-    if !before.contains_key(NEW) {
-        are.remove(NEW);
-    }
-    difference(&are, before).and_then(|_| difference(&are, wanted))
-}
-
 /// Tells of a difference and ends everything.
 fn differ(one: &Run, number: usize, left: &Left, files: Option<String>, repeat: &str) -> ! {
     let (start, words) = (shown(&one.start), shown(&one.words));
@@ -114,13 +93,9 @@ fn judge(program: &str, case: &Case, repeat: &str) {
     let mut before = things(&case.folder);
     for (number, one) in case.runs.iter().enumerate() {
         let left = left_by(program, one);
-        let (are, wanted) = (things(&case.folder), changed(before.clone(), one));
-        let is_cut = is_cut(one, &left);
-        let files = match is_cut {
-            true => cut(are, &before, &wanted),
-            false => difference(&are, &wanted),
-        };
-        if files.is_some() || !(is_cut || right(&left, &one.wanted)) {
+        let wanted = changed(before, one);
+        let files = difference(&things(&case.folder), &wanted);
+        if files.is_some() || !right(&left, &one.wanted) {
             differ(one, number, &left, files, repeat);
         }
         before = wanted;

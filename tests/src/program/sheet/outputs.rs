@@ -15,7 +15,7 @@ const SILENT: [&str; 3] = ["sh", "-c", "exec \"$0\" \"$@\" 2>&-"];
 /// The same with standard output in the place of standard error, and that in the place of the other.
 const SWAPPED: [&str; 3] = ["sh", "-c", "exec \"$0\" \"$@\" 3>&1 1>&2 2>&3 3>&-"];
 
-/// Scripts that start the program so that writing where nothing reads does not end it: it fails.
+/// Scripts that start the program so that the signal of writing where nothing reads is ignored.
 const IGNORING: [&str; 3] = ["sh", "-c", "trap '' PIPE && exec \"$0\" \"$@\""];
 const IGNORING_SWAPPED: [&str; 3] = [
     "sh",
@@ -122,8 +122,8 @@ pub fn unheard(run: Run) -> Run {
     .started(&SWAPPED)
 }
 
-/// An output that nothing reads, where that ends the program and where it does not: where there is a
-/// sheet, where there is none, and where FILE.new is there.
+/// An output that nothing reads, with its signal and with that ignored, which is the same: where there
+/// is a sheet, where there is none, and where FILE.new is there.
 fn broken(maker: &mut Maker) {
     let changes: [fn(Run) -> Run; 4] = [
         |run| unwritten(run, Output::Broken),
