@@ -1,6 +1,7 @@
 /*
  * Drawmitten for C and Rust: truth tables, builds, covers, blocks and patch sheets. Link
- * target/staticlib/libdrawmitten_c.a, which `rt staticlib drawmitten_c` proves and writes, for x86-64 Linux.
+ * crates/drawmitten_c/out/libdrawmitten_c.a, which `rt lib` in crates/drawmitten_c proves and writes, for x86-64
+ * Linux.
  *
  * THE ANSWER. Every call answers one number of 64 bits. Its low 8 bits are 0 for success, or the number of the refusal
  * (below). The bits above, `answer >> 8`, are the other part of the answer: what it is after success stands at each
