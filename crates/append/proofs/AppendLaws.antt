@@ -1,8 +1,10 @@
 -- Appending: what it accepts, that its promise leaves one answer and one sheet, and that a refusal
 -- changes no byte. Assumes nothing.
+use Rattle.std.specs.Prelude.{Err, Ok, Result}
+use Rattle.record.specs.declared.Refused.{Refused}
 use mathlib.Core.Path.{◌≡◌, refl, sym, ◌∙◌}
 use mathlib.Core.List.{List, [], ◌∷◌, ◌++◌}
-use Prim.Native.Nat.{ℕ, zero, suc, ◌+◌, ◌-◌, ◌≤◌, ◌<◌}
+use Prim.Native.Nat.{ℕ, ◌+◌, ◌-◌, ◌≤◌, ◌<◌}
 use native.Mathlib.Omega.{arith}
 use lib.Dec.{ltb, leb}
 use lib.ListN.{length, take, drop}
@@ -10,15 +12,12 @@ use borrow.Rule.Slice.PartMut.{put_mid}
 use borrow.Author.Tests.{ltb-false, leb-false, le-ltb, lt-leb}
 use Rattle.bits.proofs.TestLaws.{either-false}
 use Rattle.bits.proofs.SliceLaws.{tail-back}
-use Rattle.block.specs.declared.Refusal.{Refusal}
 use Rattle.block.specs.Refusal.{◌when◌}
-use Rattle.block.proofs.RefusalLaws.{pick-zero}
-use Rattle.record.specs.declared.Told.{Told}
-use Rattle.record.specs.declared.Told.TheVariants.{Refused}
+use Rattle.block.proofs.RefusalLaws.{pick-zero, at-refusal}
 use Rattle.record.specs.Record.{Record, record_bytes, lay_out}
 use Rattle.record.specs.Fault.{record_refusal, whole, ◌then◌}
-use Rattle.record.specs.Told.{told, told_of}
-use Rattle.record.proofs.ToldLaws.{refusal-some, then-zero, then-test, told-unique, told-number}
+use Rattle.record.specs.Told.{fault_of}
+use Rattle.record.proofs.ToldLaws.{then-zero, then-test, told-unique, fault-told, refusal-told}
 use Rattle.records.specs.Sheet.{most_records, records_of, last_key}
 use Rattle.records.specs.Check.{sheet_fault}
 use Rattle.append.specs.Append.{no_room, new_fault, append_fault, appended, Appends}
@@ -64,41 +63,34 @@ none-of-fine s used r fine =
       lt-leb most_records (length (records_of (take used s))) fine.few,
     )
 
--- an answer that was decided, and then what was written
-module _ (s : List ℕ) (used : ℕ) (r : Record) (t : Told)
-    (decided : told_of t ≡ told (append_fault s used r) 0 (used + record_bytes)) where
-  decided-number : (told_of t).number ≡ (append_fault s used r).number
-  decided-number = told-number t (append_fault s used r) (used + record_bytes) decided
+-- what appending answers and leaves: a refusal, or the record in the free tail
+pub appends-nothing : (s : List ℕ) (used : ℕ) (r : Record) (k : Refused) → fault_of k ≡ append_fault s used r
+    → Appends s used r s (Err k)
+appends-nothing s used r k e =
+    record {
+      answer = fault-told k (append_fault s used r) (used + record_bytes) (sym e);
+      kept = rw (← e) (at-refusal (λ m. s ≡ appended m s used r) (λ m. refl) k.refusal);
+    }
 
-  pub decided-fine : (told_of t).number ≡ 0 → Fine s used r
-  decided-fine none = append-fine s used r (sym decided-number ∙ none)
+pub appends-record : (s : List ℕ) (used : ℕ) (r : Record) (tail : List ℕ) → (append_fault s used r).number ≡ 0
+    → tail ≡ lay_out r ++ drop record_bytes (take (length s - used) (drop used s))
+    → Appends s used r (put_mid used (length s - used) s tail) (Ok (used + record_bytes))
+appends-record s used r tail none written =
+    record {
+      answer = rw none;
+      kept =
+          rw (none, written)
+          (tail-back s (lay_out r) used record_bytes (omega (arith, (append-fine s used r none).room)));
+    }
 
-  pub appends-nothing : ((told_of t).number ≡ 0 → ⊥) → Appends s used r s t
-  appends-nothing some =
-      record { answer = decided; kept = rw (← decided-number) (at-number (told_of t).number some) }
-    where
-      at-number : (m : ℕ) → (m ≡ 0 → ⊥) → s ≡ appended m s used r
-      at-number zero never = absurd (never refl)
-      at-number (suc m) never = refl
-
-  pub appends-record : (tail : List ℕ) → (told_of t).number ≡ 0
-      → tail ≡ lay_out r ++ drop record_bytes (take (length s - used) (drop used s))
-      → Appends s used r (put_mid used (length s - used) s tail) t
-  appends-record tail none written =
-      record {
-        answer = decided;
-        kept =
-            rw (← decided-number, none, written)
-            (tail-back s (lay_out r) used record_bytes (omega (arith, (decided-fine none).room)));
-      }
-
-pub append-unique : (before : List ℕ) (used : ℕ) (r : Record) (after after' : List ℕ) (p q : Told)
+pub append-unique : (before : List ℕ) (used : ℕ) (r : Record) (after after' : List ℕ) (p q : Result ℕ Refused)
     → Appends before used r after p → Appends before used r after' q → (p ≡ q) × (after ≡ after')
 append-unique before used r after after' p q a a' =
     (told-unique p q _ a.answer a'.answer, a.kept ∙ sym a'.kept)
 
-pub append-refused : (before : List ℕ) (used : ℕ) (r : Record) (after : List ℕ) (k : Refusal) (p : ℕ)
-    → Appends before used r after (Refused k p) → after ≡ before
-append-refused before used r after k p a =
-    let nothing = appends-nothing before used r (Refused k p) a.answer (refusal-some k) in
-    (append-unique before used r after before (Refused k p) (Refused k p) a nothing).1
+pub append-refused : (before : List ℕ) (used : ℕ) (r : Record) (after : List ℕ) (k : Refused)
+    → Appends before used r after (Err k) → after ≡ before
+append-refused before used r after k a =
+    let nothing =
+    appends-nothing before used r k (sym (refusal-told k (append_fault before used r) (used + record_bytes) a.answer)) in
+    (append-unique before used r after before (Err k) (Err k) a nothing).1

@@ -1,22 +1,13 @@
 -- The bytes of a slice to which a header is copied, and then the bytes after it. Assumes nothing.
-use mathlib.Core.Path.{◌≡◌, sym, ◌∙◌}
+use mathlib.Core.Path.{◌≡◌, sym}
 use mathlib.Core.List.{List, ◌++◌, append_assoc}
-use Prim.Native.Nat.{ℕ, ◌+◌, ◌-◌}
+use Prim.Native.Nat.{ℕ, ◌+◌}
 use borrow.Rule.Slice.PartMut.{put_mid}
-use lib.ListN.{length, take, drop}
-use lib.Seq.{take-length, take_at, drop_at, drop-drop}
-use Rattle.bits.proofs.SliceLaws.{filled_on}
+use lib.ListN.{length, drop}
+use lib.Seq.{take_at, drop_at, drop-drop}
 
--- a front of a bytes is copied to the start of the room, then b bytes to the part after it
-pub both-copied : (front back room headed filled : List ℕ) (a b : ℕ) → length front ≡ a → length back ≡ b
-    → headed ≡ take (length front) front ++ drop (length front) room
-    → filled ≡ take (length back) back ++ drop (length back) (take (length headed - a) (drop a headed))
-    → put_mid a (length headed - a) headed filled ≡ (front ++ back) ++ drop (a + b) room
-both-copied front back room headed filled a b is-a is_b first second =
-    let written : headed ≡ front ++ drop a room = first ∙ rw (take-length front, is-a) in
-    rw (second, take-length back, is_b) (filled_on headed room front back a b written is-a)
-
--- the same, each copied to a part of its own length
+-- a front of a bytes is copied to the start of the room, then b bytes to the part after it, each to a
+-- part of its own length
 pub parts-copied : (front back room headed filled : List ℕ) (a b k : ℕ) → length front ≡ a → k ≡ b
     → headed ≡ front → filled ≡ back
     → put_mid a k (headed ++ drop a room) filled ≡ (front ++ back) ++ drop (a + b) room

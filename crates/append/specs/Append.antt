@@ -1,11 +1,10 @@
 -- What appending answers, and what the lent sheet holds then (document 01, "Numbered refusals").
 -- Assumes nothing.
-use Rattle.std.specs.Prelude.{ℕ, zero, suc, ◌+◌, ◌-◌, ◌≡◌, Bool, ◌||◌, List, [], ◌∷◌, ◌++◌, leb, ltb, length, take, drop}
+use Rattle.std.specs.Prelude.{ℕ, zero, suc, ◌+◌, ◌-◌, ◌≡◌, Bool, ◌||◌, List, [], ◌∷◌, ◌++◌, leb, ltb, length, take, drop, Result}
+use Rattle.record.specs.declared.Refused.{Refused}
 use Rattle.block.specs.Refusal.{◌when◌}
 use Rattle.block.specs.Answer.{Answer}
-use Rattle.record.specs.declared.Numbers.{Numbers}
-use Rattle.record.specs.declared.Told.{Told}
-use Rattle.record.specs.Record.{Record, record_bytes, lay_out, pair_of}
+use Rattle.record.specs.Record.{Record, record_bytes, lay_out}
 use Rattle.record.specs.Fault.{record_refusal, Fault, at, whole, ◌then◌}
 use Rattle.record.specs.Told.{Placed, told, told_of}
 use Rattle.records.specs.Sheet.{most_records, records_of, last_key}
@@ -32,12 +31,6 @@ abbrev pub appended : (refusal : ℕ) (s : List ℕ) (used : ℕ) (r : Record) �
 appended zero s used r = take used s ++ (lay_out r ++ drop (used + record_bytes) s)
 appended (suc k) s used r = s
 
--- a record after these numbers is refused as one after the sheet's last record
-abbrev pub AsLast : (s : List ℕ) (last : Numbers) → Type 0
-AsLast s last =
-    (r : Record)
-    → record_refusal (last_key [] (records_of s)) r ≡ record_refusal (pair_of last.craft last.block) r
-
 -- the length in use grows by 14
 abbrev pub append_answer : (s : List ℕ) (used : ℕ) (r : Record) → Answer (Placed ℕ)
 append_answer s used r = told (append_fault s used r) 0 (used + record_bytes)
@@ -47,6 +40,6 @@ abbrev pub sheet_after : (s : List ℕ) (used : ℕ) (r : Record) → List ℕ
 sheet_after s used r = appended (append_fault s used r).number s used r
 
 -- what appending promises
-pub record Appends (before : List ℕ) (used : ℕ) (r : Record) (after : List ℕ) (q : Told) : Type 0 where
+pub record Appends (before : List ℕ) (used : ℕ) (r : Record) (after : List ℕ) (q : Result ℕ Refused) : Type 0 where
   pub answer : told_of q ≡ append_answer before used r
   pub kept : after ≡ sheet_after before used r

@@ -2,29 +2,24 @@
 
 #![tactic(auto)]
 
-ghost use Rattle.std.specs.Prelude.{◌≡◌, ◌++◌, ◌%◌, ◌≤◌, eqb, length, drop};
+ghost use Rattle.std.specs.Prelude.{◌≡◌, [], ◌++◌, ◌%◌, ◌≤◌, length, drop, IfOk, IfErr};
 ghost use Rattle.codec.specs.Ten.{block_bytes};
-ghost use Rattle.record.specs.Record.{record_bytes, header_of, lay_out, record_with};
-ghost use Rattle.record.specs.Told.{told_of};
-ghost use Rattle.append.specs.Append.{AsLast, no_room, append_answer, Appends};
+ghost use Rattle.record.specs.Record.{record_bytes, header_of, lay_out, record_with, key_before};
+ghost use Rattle.record.specs.Told.{fault_of};
+ghost use Rattle.records.specs.Sheet.{records_of, last_key};
+ghost use Rattle.append.specs.Append.{no_room, append_fault, Appends};
 
 use block::Refusal;
-use record::{HEADER_BYTES, Numbers, RECORD_BYTES, Told};
+use record::{HEADER_BYTES, Numbers, Pair, RECORD_BYTES, Refused};
 use records::MOST_RECORDS;
 
-// The numbers of the last record; all 0 where there is none, since every assigned pair is above 0, 0.
-fn last_of(s: &[u8]) -> Numbers
+// The pair of the last record, if there is one.
+fn last_of(s: &[u8]) -> Option<Pair>
     requires { length s.now % record_bytes ≡ 0 }
-    ensures { AsLast s.now result }
+    ensures { key_before result ≡ last_key [] (records_of s.now) }
 {
-    if s.len() < RECORD_BYTES {
-        return Numbers {
-            craft: 0,
-            block: 0,
-            n: 0,
-        };
-    }
-    record::numbers_of(&s[s.len() - RECORD_BYTES..])
+    let bytes = s.last_chunk::<RECORD_BYTES>()?;
+    Some(record::numbers_of(bytes).pair())
 }
 
 fn is_full(left: usize, count: usize) -> bool
@@ -33,38 +28,24 @@ fn is_full(left: usize, count: usize) -> bool
     (left < RECORD_BYTES) | (MOST_RECORDS <= count)
 }
 
-// What is to be answered. Nothing is written.
-fn decide(s: &[u8], used: usize, x: Numbers, ten: &[u8]) -> Told
-    ensures { told_of result ≡ append_answer s.now used (record_with x ten.now) }
+// The refusal of the record, if there is one. Nothing is written.
+fn decide(s: &[u8], used: usize, x: Numbers, ten: &[u8]) -> Result<(), Refused>
+    ensures ok { IfOk result (λ _. (append_fault s.now used (record_with x ten.now)).number ≡ 0) }
+    ensures err { IfErr result (λ r. fault_of r ≡ append_fault s.now used (record_with x ten.now)) }
 {
     if s.len() < used {
-        return Told::Refused(Refusal::R2, 0);
+        return Err(Refusal::WrongLength.into());
     }
-    let checked = records::check(&s[0..used]);
-    let Told::Value(count) = checked else {
-        return checked;
-    };
-    let last = last_of(&s[0..used]);
-    let judged = record::judge(last, x, ten, count);
-    let Told::Value(_) = judged else {
-        return judged;
-    };
-    if is_full(s.len() - used, count) {
-        return Told::Refused(Refusal::R5, 0);
+    let (sheet, left) = s.split_at(used);
+    let count = records::check(sheet)?;
+    record::judge(last_of(sheet), x, ten, count)?;
+    if is_full(left.len(), count) {
+        return Err(Refusal::NoRoom.into());
     }
-    Told::Value(used + RECORD_BYTES)
+    Ok(())
 }
 
-fn stores(decided: Told) -> bool
-    ensures { result ≡ eqb (told_of decided).number 0 }
-{
-    match decided {
-        Told::Value(_) => true,
-        Told::Refused(_, _) => false,
-    }
-}
-
-// The bytes of the numbers.
+// The bytes of the numbers, by shifts and masks, which cut a number above its field.
 fn header(x: Numbers) -> [u8; 4]
     ensures { result ≡ header_of x.craft x.block x.n }
 {
@@ -86,13 +67,11 @@ fn write_record(room: &mut [u8], x: Numbers, ten: &[u8])
     room[HEADER_BYTES..HEADER_BYTES + ten.len()].copy_from_slice(ten);
 }
 
-// A record is added at the end of the used part.
-pub fn append(s: &mut [u8], used: usize, x: Numbers, ten: &[u8]) -> Told
+// A record is added at the end of the used part. The buffer and how much of it is in use come apart, as C lends them.
+pub fn append(s: &mut [u8], used: usize, x: Numbers, ten: &[u8]) -> Result<usize, Refused>
     ensures { Appends s.old used (record_with x ten.now) s.new result }
 {
-    let decided = decide(s, used, x, ten);
-    if stores(decided) {
-        write_record(&mut s[used..], x, ten);
-    }
-    decided
+    decide(s, used, x, ten)?;
+    write_record(&mut s[used..], x, ten);
+    Ok(used + RECORD_BYTES)
 }

@@ -3,52 +3,48 @@
 // n, which counts as 255.
 ghost use Rattle.std.specs.Prelude.{◌≤◌};
 
-use crate::{say, words};
-use record::{Numbers, Told};
+use crate::{fields, say};
+use record::Numbers;
 
 // Whether the line asks this, with so many numbers and nothing after them.
 pub(crate) fn asks(line: &[u8], question: &[u8], count: usize) -> bool
     requires { count ≤ 2 }
 {
     let end = 2 + count;
-    words::same(words::word(line, 1), question)
-        & words::are_numbers(line, 2, end)
-        & (words::skip(line, end).len() == 0)
+    fields::word(line, 1) == question
+        && fields::are_numbers(line, 2, end)
+        && fields::skip(line, end).is_empty()
 }
 
 // Whether the line asks to append, with three numbers, bytes and nothing after them.
 pub(crate) fn asks_append(line: &[u8]) -> bool {
-    words::same(words::word(line, 1), b"append")
-        & words::are_numbers(line, 2, 5)
-        & words::is_bytes(words::word(line, 5))
-        & (words::skip(line, 6).len() == 0)
+    fields::word(line, 1) == b"append".as_slice()
+        && fields::are_numbers(line, 2, 5)
+        && fields::is_bytes(fields::word(line, 5))
+        && fields::skip(line, 6).is_empty()
 }
 
 // The records of the sheet: the part in use, and never more than there is.
 pub(crate) fn in_use(sheet: &[u8], used: usize) -> &[u8] {
-    let end = words::least(used, sheet.len());
-    &sheet[0..end]
+    &sheet[..used.min(sheet.len())]
 }
 
 // The numbers after what is asked; n is 0 where there is none.
 fn numbers(line: &[u8]) -> Numbers {
     Numbers {
-        craft: words::number(words::word(line, 2)),
-        block: words::number(words::word(line, 3)),
-        n: words::decimal(words::word(line, 4), 255) as u8,
+        craft: fields::number(fields::word(line, 2)),
+        block: fields::number(fields::word(line, 3)),
+        n: fields::byte(fields::word(line, 4)),
     }
 }
 
 // Answers the length in use then; more than eleven bytes count as eleven.
 pub(crate) fn append(rt: &impl Print, line: &[u8], sheet: &mut [u8], used: usize) -> usize {
     let mut data = [0u8; 11];
-    let len = words::bytes(words::word(line, 5), &mut data);
-    let answer = append::append(sheet, used, numbers(line), &data[0..len]);
+    let len = fields::bytes(fields::word(line, 5), &mut data);
+    let answer = append::append(sheet, used, numbers(line), &data[..len]);
     say::told(rt, answer);
-    match answer {
-        Told::Value(longer) => longer,
-        Told::Refused(_, _) => used,
-    }
+    answer.unwrap_or(used)
 }
 
 pub(crate) fn place(rt: &impl Print, line: &[u8], records: &[u8]) {
@@ -60,16 +56,16 @@ pub(crate) fn place(rt: &impl Print, line: &[u8], records: &[u8]) {
 pub(crate) fn find(rt: &impl Print, line: &[u8], records: &[u8]) {
     let x = numbers(line);
     let ten = finding::find(records, x.craft, x.block);
-    if 0 < ten.len() {
-        say::bytes(rt, ten);
-    } else {
+    if ten.is_empty() {
         place(rt, line, records);
+    } else {
+        say::bytes(rt, ten);
     }
 }
 
 pub(crate) fn read(rt: &impl Print, line: &[u8], records: &[u8]) {
     say::reading(
         rt,
-        finding::read(records, words::number(words::word(line, 2)) as usize),
+        finding::read(records, fields::number(fields::word(line, 2)) as usize),
     );
 }

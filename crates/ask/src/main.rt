@@ -4,30 +4,28 @@
 #![tactic(auto)]
 
 mod answer;
+mod fields;
 mod filed;
 mod say;
-mod words;
 
 use input::Input;
 
+#[tactic(auto, using(input::proofs::RoomLaws::whole_within, input::proofs::RoomLaws::whole_taken))]
 fn main(rt: HostRuntime) {
     let mut text = [0u8; 49152];
-    let got = input::read(&mut rt.stdin(), &mut text);
-    match got {
-        Input::Whole(used) => answers(&rt, &text[0..used]),
-        Input::Longer => say::too_long(&rt),
-        Input::Failed(_) => say::unreadable(&rt),
+    match input::read(&mut rt.stdin(), &mut text) {
+        Ok(Input::Whole(used)) => answers(&rt, &text[..used]),
+        Ok(Input::Longer) => say::complain(&rt, "ask: more than 49,151 bytes of questions\n"),
+        Err(_) => say::complain(&rt, "ask: standard input could not be read\n"),
     }
 }
 
-// The sheet has room for sixteen records, and none at the start.
+// The sheet has room for sixteen records, and none at the start; `append` takes it with its length in use.
 fn answers(rt: &impl Print, text: &[u8]) {
     let mut sheet = [0u8; 224];
     let mut used = 0;
-    let mut rest = text;
-    while 0 < rest.len() {
-        used = answer::line(rt, words::before(rest, b'\n'), &mut sheet, used);
-        let next = words::after(rest, b'\n');
-        rest = next;
+    for line in text.split_inclusive(|&b| b == b'\n') {
+        let line = line.strip_suffix(b"\n").unwrap_or(line);
+        used = answer::line(rt, line, &mut sheet, used);
     }
 }

@@ -1,5 +1,6 @@
 -- The promise of a batch leaves one answer; its slots have the places and the content that the requests
 -- give them; and two batches one after the other. Assumes nothing.
+use Rattle.std.specs.Prelude.{Err, Ok, Result}
 use mathlib.Core.Path.{◌≡◌, refl, sym, ap, ap₂, ◌∙◌, subst}
 use mathlib.Core.Bool.{true, false}
 use mathlib.Core.List.{List, [], ◌∷◌, ◌++◌, append_assoc}
@@ -11,9 +12,7 @@ use Rattle.bits.specs.Tests.{member, all}
 use Rattle.bits.proofs.TestLaws.{both_left, both_right}
 use Rattle.bits.proofs.AnyLaws.{all_append}
 use Rattle.block.specs.declared.Refusal.{Refusal}
-use Rattle.block.specs.declared.Refusal.TheVariants.{R14}
-use Rattle.block.specs.declared.Written.{Written}
-use Rattle.block.specs.declared.Written.TheVariants.{Length, Refused}
+use Rattle.block.specs.declared.Refusal.TheVariants.{BrokenBuild}
 use Rattle.block.specs.Refusal.{number_of}
 use Rattle.block.specs.Answer.{written_of, refused, filled}
 use Rattle.block.proofs.AnswerLaws.{written-number, answered-parts, fills-refused, fills-bytes, fills-kept, fills-unique}
@@ -29,14 +28,14 @@ use Rattle.batch.specs.Batch.{slot_bytes, slot_of, Slot, Batched}
 use Rattle.batch.proofs.SingleLaws.{slot-number}
 use Rattle.batch.proofs.SlotLaws.{slot-length, slot-short, slots_length}
 
-pub batch-unique : (s before after after' : List ℕ) (r q : Written) → Batched s before after r
+pub batch-unique : (s before after after' : List ℕ) (r q : Result ℕ Refusal) → Batched s before after r
     → Batched s before after' q → (r ≡ q) × (after ≡ after')
 batch-unique s before =
     fills-unique (build_refusal slot_bytes s (length before)) (Each Slot (requests_of s))
     (each-unique Slot (λ q. single-unique q.n q.table slot_of) (requests_of s)) before
 
 -- a refusal is the first of 14 and 5, and changes no byte
-pub batch-refused : (s before after : List ℕ) (k : Refusal) → Batched s before after (Refused k)
+pub batch-refused : (s before after : List ℕ) (k : Refusal) → Batched s before after (Err k)
     → (number_of k ≡ build_refusal slot_bytes s (length before)) × (after ≡ before)
 batch-refused s before =
     fills-kept (build_refusal slot_bytes s (length before)) (Each Slot (requests_of s)) before
@@ -49,10 +48,10 @@ pub record Slotted (s before after : List ℕ) (used : ℕ) : Type 0 where
   pub used-is : used ≡ length slots
   pub after_is : after ≡ slots ++ drop used before
 
-pub slotted : (s before after : List ℕ) (used : ℕ) → Batched s before after (Length used)
+pub slotted : (s before after : List ℕ) (used : ℕ) → Batched s before after (Ok used)
     → Slotted s before after used
 slotted s before after used (refused some w) =
-    absurd (some (sym (written-number _ [] before after (Length used) w)))
+    absurd (some (sym (written-number _ [] before after (Ok used) w)))
 slotted s before after used (filled fine slots each w) =
     let size : used ≡ length slots = (answered-parts 0 0 (length slots) used w.told).1 in
     record { slots = slots; each = each; fine = fine; used-is = size; after_is = rw size w.kept }
@@ -90,7 +89,7 @@ among-slots qs rs q slots beyond each =
     )
     (first_slot rs q parts.back beyond parts.others)
 
-module _ (s before after : List ℕ) (used : ℕ) (b : Batched s before after (Length used)) where
+module _ (s before after : List ℕ) (used : ℕ) (b : Batched s before after (Ok used)) where
   made : Slotted s before after used
   made = slotted s before after used b
 
@@ -111,12 +110,12 @@ module _ (s before after : List ℕ) (used : ℕ) (b : Batched s before after (L
       (subst (λ (all : List Request). Each Slot all made.slots) split made.each))
 
 -- the length in use is within the buffer
-pub batch-within : (s before after : List ℕ) (r : Written) → Batched s before after r
+pub batch-within : (s before after : List ℕ) (r : Result ℕ Refusal) → Batched s before after r
     → (written_of r).parts ≤ length before
 batch-within = fills-within Slot slot_bytes slot-short
 
 -- whose number is 0, 3 or 4
-pub slot-at-number : (s before after : List ℕ) (used : ℕ) → Batched s before after (Length used)
+pub slot-at-number : (s before after : List ℕ) (used : ℕ) → Batched s before after (Ok used)
     → (qs rs : List Request) (q : Request) → requests_of s ≡ qs ++ (q ∷ rs)
     → member (get_or (drop (slot_bytes * length qs) after) 0 0) (0 ∷ 3 ∷ 4 ∷ []) ≡ true
 slot-at-number s before after used b qs rs q split =
@@ -130,17 +129,17 @@ slot-at-number s before after used b qs rs q split =
     first_byte (x ∷ t) = refl
 
 -- the empty buffer is a batch of none
-pub batch-none : (before after : List ℕ) (r : Written) → Batched [] before after r
-    → (r ≡ Length 0) × (after ≡ before)
+pub batch-none : (before after : List ℕ) (r : Result ℕ Refusal) → Batched [] before after r
+    → (r ≡ Ok 0) × (after ≡ before)
 batch-none before after r b =
     let fine = accepts slot_bytes [] (length before) broken-none (rw requests-none (omega arith)) in
-    batch-unique [] before after before r (Length 0) b
+    batch-unique [] before after before r (Ok 0) b
     (fills-bytes _ (Each Slot (requests_of [])) [] before before 0 fine
     (subst (λ (qs : List Request). Each Slot qs []) (sym requests-none) none) refl refl)
 
 -- two batches one after the other: the slots of the first, and then those of the second
 module _ (s t : List ℕ) (before before' after after' : List ℕ) (used used' : ℕ)
-    (b : Batched s before after (Length used)) (b' : Batched t before' after' (Length used')) where
+    (b : Batched s before after (Ok used)) (b' : Batched t before' after' (Ok used')) where
   first : Slotted s before after used
   first = slotted s before after used b
 
@@ -164,15 +163,15 @@ module _ (s t : List ℕ) (before before' after after' : List ℕ) (used used' :
   both-length =
       length-append first.slots second.slots ∙ omega (arith, first.used-is, second.used-is)
 
-  pub two-batches : (buffer result : List ℕ) (r : Written) → used + used' ≤ length buffer
+  pub two-batches : (buffer result : List ℕ) (r : Result ℕ Refusal) → used + used' ≤ length buffer
       → Batched (s ++ t) buffer result r
-      → (r ≡ Length (used + used')) × (result ≡ take used after ++ take used' after' ++ drop (used + used') buffer)
+      → (r ≡ Ok (used + used')) × (result ≡ take used after ++ take used' after' ++ drop (used + used') buffer)
   two-batches buffer result r room p =
       let slots = first.slots ++ second.slots in
       let all = slots_length (requests_of (s ++ t)) slots both-slots in
       let fine = accepts slot_bytes (s ++ t) (length buffer) both-sound (omega (arith, all, both-length)) in
       let rest = drop (used + used') buffer in
-      let same = batch-unique (s ++ t) buffer result (slots ++ rest) r (Length (used + used')) p
+      let same = batch-unique (s ++ t) buffer result (slots ++ rest) r (Ok (used + used')) p
       (fills-bytes _ (Each Slot (requests_of (s ++ t))) slots buffer _ (used + used') fine both-slots
       (sym both-length) (rw both-length refl)) in (
         same.0,
@@ -182,9 +181,9 @@ module _ (s t : List ℕ) (before before' after after' : List ℕ) (used used' :
       )
 
 -- after a build that is not broken, a broken one makes the whole 14, and nothing is written
-pub then-broken : (s t before after : List ℕ) (r : Written) → broken s ≡ false → broken t ≡ true
-    → Batched (s ++ t) before after r → (r ≡ Refused R14) × (after ≡ before)
+pub then-broken : (s t before after : List ℕ) (r : Result ℕ Refusal) → broken s ≡ false → broken t ≡ true
+    → Batched (s ++ t) before after r → (r ≡ Err BrokenBuild) × (after ≡ before)
 then-broken s t before after r sound some b =
-    batch-unique (s ++ t) before after before r (Refused R14) b
-    (fills-refused R14 _ (Each Slot (requests_of (s ++ t))) before
+    batch-unique (s ++ t) before after before r (Err BrokenBuild) b
+    (fills-refused BrokenBuild _ (Each Slot (requests_of (s ++ t))) before
     (sym (refuses-broken slot_bytes (s ++ t) (length before) (two-broken t s sound ∙ some))))

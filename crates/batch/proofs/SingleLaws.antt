@@ -1,5 +1,7 @@
 -- A slot is what a single call gives for its request, in whatever room of ten bytes or more. Assumes
 -- nothing.
+use Rattle.std.specs.Prelude.{Result}
+use Rattle.block.specs.declared.Refusal.{Refusal}
 use mathlib.Core.Path.{◌≡◌, refl, sym, ap, ap₂, ◌∙◌}
 use mathlib.Core.Bool.{true, not}
 use mathlib.Core.List.{List, [], ◌∷◌, append-nil}
@@ -12,7 +14,6 @@ use lib.Seq.{take_at}
 use borrow.Author.Tests.{le-ltb, eq-eqb, ne_eqb}
 use Rattle.bits.specs.Tests.{pick, member}
 use Rattle.bits.proofs.SearchLaws.{byBool}
-use Rattle.block.specs.declared.Written.{Written}
 use Rattle.block.specs.Table.{table_bytes, padding}
 use Rattle.block.specs.Block.{Block}
 use Rattle.block.specs.Answer.{written_of, Writes}
@@ -27,7 +28,7 @@ use Rattle.requests.proofs.LaidLaws.{whole_of}
 use Rattle.batch.specs.Batch.{Slot}
 
 -- the ten bytes of an answer: those written, or zeros after a refusal
-abbrev pub ten_of : (r : Written) (after : List ℕ) → List ℕ
+abbrev pub ten_of : (r : Result ℕ Refusal) (after : List ℕ) → List ℕ
 ten_of r after = pick (eqb (written_of r).number 0) (take block_bytes after) ten_zeros
 
 -- room for ten bytes is as good as more
@@ -36,7 +37,7 @@ same-refusal : (n : ℕ) (t : List ℕ) (room : ℕ) → block_bytes ≤ room
 unfolding match_refusal
 same-refusal n t room l = rw (le-ltb room block_bytes l)
 
-module _ (n : ℕ) (t before after : List ℕ) (r : Written) (l : block_bytes ≤ length before) where
+module _ (n : ℕ) (t before after : List ℕ) (r : Result ℕ Refusal) (l : block_bytes ≤ length before) where
   zeros-kept : (k : ℕ) → (k ≡ 0 → ⊥) → Writes k [] before after r → Writes k [] ten_zeros (ten_of r after) r
   zeros-kept k some w =
       let number = written-number k [] before after r w in
@@ -69,13 +70,13 @@ module _ (n : ℕ) (t before after : List ℕ) (r : Written) (l : block_bytes �
       let ten = packed-ten n b (acceptable n t (length before) none b p.matches) in
       matched (sym alike ∙ none) b p (bytes-written b ten w)
 
-pub slot-single : (q : Request) (slot before after : List ℕ) (r : Written) → Slot q slot
+pub slot-single : (q : Request) (slot before after : List ℕ) (r : Result ℕ Refusal) → Slot q slot
     → block_bytes ≤ length before → Matched q.n q.table before after r
     → slot ≡ (written_of r).number ∷ ten_of r after
 slot-single q slot before after r s l m =
     let single = in-ten-zeros q.n q.table before after r l m in
     let same = match-unique q.n q.table ten_zeros s.ten (ten_of r after) s.answer r s.matched single in
-    s.made ∙ ap₂ ◌∷◌ (ap (λ (a : Written). (written_of a).number) same.0) same.1
+    s.made ∙ ap₂ ◌∷◌ (ap (λ (a : Result ℕ Refusal). (written_of a).number) same.0) same.1
 
 -- after a refusal the ten bytes are zero
 pub slot-refused : (q : Request) (slot : List ℕ) → Slot q slot → (get_or slot 0 0 ≡ 0 → ⊥)

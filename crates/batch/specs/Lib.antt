@@ -1,3 +1,2 @@
 -- One call for a whole build. Assumes nothing.
 pub mod Batch
-pub mod Filling

@@ -1,6 +1,6 @@
 -- What the tests of a whole list say of its entries. Assumes nothing.
 use mathlib.Core.Path.{◌≡◌, refl, sym, ap, ◌∙◌}
-use mathlib.Core.Bool.{Bool, true, false, ◌&&◌, false≢true, and_assoc, or-true}
+use mathlib.Core.Bool.{Bool, true, ◌&&◌, false≢true, and_assoc, or-true}
 use mathlib.Core.List.{List, [], ◌∷◌, ◌++◌}
 use Prim.Native.Nat.{ℕ, zero, suc, suc-le-suc, ◌<◌}
 use native.Mathlib.Nat.{not-suc-le-zero, zero-lt-suc, le_of_suc-le-suc, lt_trans}

@@ -1,6 +1,8 @@
 -- What a cover promises leaves one answer and one buffer, and a table that was read is well-formed: its
 -- bits are the cover's values. Assumes nothing.
-use mathlib.Core.Path.{◌≡◌, sym, ap, ap₂, ◌∙◌}
+use Rattle.std.specs.Prelude.{Err, Ok, Result}
+use Rattle.block.specs.declared.Refusal.{Refusal}
+use mathlib.Core.Path.{◌≡◌, sym, ap, ◌∙◌}
 use mathlib.Core.Bool.{true, false, not}
 use mathlib.Core.List.{List, ◌++◌}
 use Prim.Native.Nat.{ℕ, ◌≤◌, ◌<◌}
@@ -18,22 +20,24 @@ use Rattle.block.proofs.AnswerLaws.{never-refused, answered-parts}
 use Rattle.block.proofs.TableLaws.{bytes_most, table_of-length, table_of-bit, table_of-fits}
 use Rattle.words.specs.Text.{Word, content_of}
 use Rattle.blif.specs.declared.Cover.{Cover}
-use Rattle.blif.specs.declared.Cover.TheVariants.{Table, Refused}
 use Rattle.blif.specs.Part.{names_of, cover_of, inputs_of, is_part, repeats, both_outputs}
 use Rattle.blif.specs.Cover.{value_at, cover_table, cover_refusal, read_of, ReadsPart, Reads}
 
 abbrev Pair : Type 0
 Pair = ℕ × ℕ
 
-pub same-cover : (r q : Cover) → read_of r ≡ read_of q → r ≡ q
-same-cover (Table n used) (Table m used') e =
-    ap₂ Table (ap (λ (a : Answer Pair). a.parts.0) e) (ap (λ (a : Answer Pair). a.parts.1) e)
-same-cover (Table n used) (Refused k) e = absurd (never-refused (n, used) (0, 0) k e)
-same-cover (Refused k) (Table n used) e = absurd (never-refused (n, used) (0, 0) k (sym e))
-same-cover (Refused k) (Refused m) e =
-    ap Refused (number-injective k m (ap (λ (a : Answer Pair). a.number) e))
+abbrev cover_of_parts : Pair → Cover
+cover_of_parts p = record { n = p.0; used = p.1 }
 
-pub reads-unique : (text before after after' : List ℕ) (r q : Cover)
+pub same-cover : (r q : Result Cover Refusal) → read_of r ≡ read_of q → r ≡ q
+same-cover (Ok x) (Ok y) e =
+    ap (λ (p : Pair). Ok (cover_of_parts p)) (ap (λ (a : Answer Pair). a.parts) e)
+same-cover (Ok x) (Err k) e = absurd (never-refused (x.n, x.used) (0, 0) k e)
+same-cover (Err k) (Ok x) e = absurd (never-refused (x.n, x.used) (0, 0) k (sym e))
+same-cover (Err k) (Err m) e =
+    ap Err (number-injective k m (ap (λ (a : Answer Pair). a.number) e))
+
+pub reads-unique : (text before after after' : List ℕ) (r q : Result Cover Refusal)
     → Reads text before after r → Reads text before after' q → (r ≡ q) × (after ≡ after')
 reads-unique text before after after' r q p p' =
     (same-cover r q (p.told ∙ sym p'.told), p.kept ∙ sym p'.kept)
@@ -81,57 +85,57 @@ cover_table-length : (content : List (List Word))
 unfolding cover_table
 cover_table-length content = table_of-length (inputs_of content) (value_at (cover_of content))
 
-module _ (content : List (List Word)) (before after : List ℕ) (n used : ℕ)
-    (read : ReadsPart content before after (Table n used)) where
-  pub read_table : ReadTable content before after n used
+module _ (content : List (List Word)) (before after : List ℕ) (x : Cover)
+    (read : ReadsPart content before after (Ok x)) where
+  pub read_table : ReadTable content before after x.n x.used
   read_table =
       let refusal = cover_refusal content (length before) in
       let t = cover_table content in
       let inputs = inputs_of content in
-      let told = answered-parts refusal (0, 0) (inputs, table_bytes inputs) (n, used) read.told in
+      let told = answered-parts refusal (0, 0) (inputs, table_bytes inputs) (x.n, x.used) read.told in
       let kept : after ≡ t ++ drop (length t) before =
       read.kept ∙ ap (λ (k : ℕ). buffer_after k t before) told.0 in
-      let length-used : length t ≡ used =
+      let length-used : length t ≡ x.used =
       cover_table-length content ∙ sym (ap (λ (p : Pair). p.1) told.1) in
       record {
         none = told.0;
         inputs = ap (λ (p : Pair). p.0) told.1;
-        table = ap (take used) kept ∙ take_at t (drop (length t) before) used length-used;
+        table = ap (take x.used) kept ∙ take_at t (drop (length t) before) x.used length-used;
       }
 
-module _ (text before after : List ℕ) (n used : ℕ) (read : Reads text before after (Table n used)) where
+module _ (text before after : List ℕ) (x : Cover) (read : Reads text before after (Ok x)) where
   -- it fills what the longest table does at most
-  pub read-used : used ≤ 64
+  pub read-used : x.used ≤ 64
   read-used =
       let content = content_of text in
       let inputs = inputs_of content in
       let refusal = cover_refusal content (length before) in
-      let told = answered-parts refusal (0, 0) (inputs, table_bytes inputs) (n, used) read.told in
-      let long : used ≡ table_bytes inputs = ap (λ (p : Pair). p.1) told.1 in
+      let told = answered-parts refusal (0, 0) (inputs, table_bytes inputs) (x.n, x.used) read.told in
+      let long : x.used ≡ table_bytes inputs = ap (λ (p : Pair). p.1) told.1 in
       rw long (bytes_most inputs (accepted content (length before) told.0).within)
 
-  pub read-inputs : n ≤ 9
+  pub read-inputs : x.n ≤ 9
   read-inputs =
       let content = content_of text in
-      let found = read_table content before after n used read in
+      let found = read_table content before after x read in
       rw found.inputs (accepted content (length before) found.none).within
 
   -- the matcher never refuses it with 1, 2 or 3
-  pub read-well-formed : table_refusal n (take used after) ≡ 0
+  pub read-well-formed : table_refusal x.n (take x.used after) ≡ 0
   unfolding cover_table
   read-well-formed =
       let content = content_of text in
-      let found = read_table content before after n used read in
+      let found = read_table content before after x read in
       let within = (accepted content (length before) found.none).within in
       rw (found.table, found.inputs)
       (table_of-fits (inputs_of content) (value_at (cover_of content)) within)
 
   -- its bit at a row is the cover's value there
-  pub read-bit : (r : ℕ) → r < table_rows n
-      → table_bit (take used after) r ≡ num (value_at (cover_of (content_of text)) r)
+  pub read-bit : (r : ℕ) → r < table_rows x.n
+      → table_bit (take x.used after) r ≡ num (value_at (cover_of (content_of text)) r)
   unfolding cover_table
   read-bit r l =
       let content = content_of text in
-      let found = read_table content before after n used read in
+      let found = read_table content before after x read in
       rw found.table
       (table_of-bit (inputs_of content) (value_at (cover_of content)) r (rw found.inputs at l))

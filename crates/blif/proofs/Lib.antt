@@ -1,6 +1,5 @@
-pub mod SplitLaws
+pub mod OptionLaws
 pub mod NameLaws
-pub mod StartLaws
 pub mod GatherLaws
 pub mod LineLaws
 pub mod CoverLaws

@@ -1,5 +1,7 @@
 -- The order of cover lines, how often each stands, and the names do not change what is read. Assumes
 -- nothing.
+use Rattle.std.specs.Prelude.{Result}
+use Rattle.block.specs.declared.Refusal.{Refusal}
 use mathlib.Core.Path.{◌≡◌, refl, fun_ext}
 use mathlib.Core.Bool.{true, false, ◌&&◌}
 use mathlib.Core.List.{List, [], ◌∷◌}
@@ -46,7 +48,7 @@ module _ (a b : List (List Word)) (same : SameElements a b) where
       (rw (same-part (word ∷ names), same-outputs), rw (fun_ext same-value))
 
   -- the two parts are read the same
-  pub lines-read : (first : List Word) (before after : List ℕ) (r : Cover)
+  pub lines-read : (first : List Word) (before after : List ℕ) (r : Result Cover Refusal)
       → ReadsPart (first ∷ a) before after r → ReadsPart (first ∷ b) before after r
   lines-read first before after r read =
       let same = same_lines first (length before) in
@@ -58,7 +60,7 @@ module _ (a b : List (List Word)) (same : SameElements a b) where
 -- so are two texts with the same first line and the same others, in any order and number
 pub order-read : (text text' : List ℕ) (first : List Word) (a b : List (List Word))
     → content_of text ≡ first ∷ a → content_of text' ≡ first ∷ b → SameElements a b
-    → (before after : List ℕ) (r : Cover) → Reads text before after r → Reads text' before after r
+    → (before after : List ℕ) (r : Result Cover Refusal) → Reads text before after r → Reads text' before after r
 order-read text text' first a b e e' same before after r read =
     rw e' (lines-read a b same first before after r (rw e at read))
 
@@ -77,7 +79,7 @@ module _ (f f' : List Word) (lines : List (List Word))
   unfolding cover_table
   same-table = rw count
 
-  pub names-forgotten : (before after : List ℕ) (r : Cover)
+  pub names-forgotten : (before after : List ℕ) (r : Result Cover Refusal)
       → ReadsPart (f ∷ lines) before after r → ReadsPart (f' ∷ lines) before after r
   names-forgotten before after r read =
       record {

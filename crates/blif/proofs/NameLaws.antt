@@ -1,134 +1,81 @@
--- The words of a line from a place on, tried and counted one after the other; the line that opens a
--- part. Assumes nothing.
-use mathlib.Core.Path.{◌≡◌, refl, sym, ap, ◌∙◌}
-use mathlib.Core.Bool.{Bool, true, false, ◌&&◌, and_assoc, and-true}
+-- The words of the line that opens a part, tried and counted. Assumes nothing.
+use Rattle.std.specs.List.{list_all, list_any}
+use mathlib.Core.Path.{◌≡◌, refl, sym, ap, ap₂, ◌∙◌}
+use mathlib.Core.Bool.{Bool, true, false, ◌&&◌, ◌||◌}
 use mathlib.Core.List.{List, [], ◌∷◌}
-use Prim.Native.Nat.{ℕ, ◌+◌, ◌-◌, ◌≤◌}
+use Prim.Native.Nat.{ℕ, ◌-◌}
 use native.Mathlib.Omega.{arith}
 use lib.Dec.{eqb, ltb}
-use lib.ListN.{length, drop, drop_of_length-le}
-use borrow.Author.Tests.{ltb-true, eqb-true, eqb-false}
-use Rattle.bits.specs.Tests.{every, alike, all, any}
+use lib.ListN.{length}
+use lib.Pointwise.{pointwise}
+use borrow.Author.Tests.{ltb-true}
+use Rattle.bits.specs.Tests.{alike, all, any}
 use Rattle.bits.proofs.TestLaws.{both_left, both_right}
 use Rattle.bits.proofs.ListLaws.{alike-eq}
-use Rattle.bits.proofs.SearchLaws.{byBool, clash}
-use Rattle.words.specs.declared.Span.{Span}
 use Rattle.words.specs.Text.{Word, words_of}
-use Rattle.words.proofs.NextLaws.{Next}
-use Rattle.words.proofs.TextLaws.{words-none}
-use Rattle.blif.specs.declared.names.Counted.{Counted}
-use Rattle.blif.specs.Part.{dot_names, in_name, is_name, opens, repeats}
-use Rattle.blif.specs.Reading.{word_at, CountsNames, Opens}
-use Rattle.blif.proofs.SplitLaws.{there}
+use Rattle.words.specs.Left.{words_left}
+use Rattle.words.proofs.ByteLaws.{alike-pointwise}
+use Rattle.blif.specs.declared.names.Names.{Names}
+use Rattle.blif.specs.Part.{dot_names, is_name, opens, repeats}
+use Rattle.blif.specs.Reading.{Opened}
 
--- no word is left at the line's end
-pub words-end : (line : List ℕ) (i : ℕ) → length line ≤ i → words_of (drop i line) ≡ []
-words-end line i over = rw (drop_of_length-le line over) words-none
+-- the library's words for the same tests
+all-list_all : {A : Type 0} (test : A → Bool) (s : List A) → list_all test s ≡ all test s
+all-list_all test [] = refl
+all-list_all test (x ∷ s) = ap (λ (r : Bool). test x && r) (all-list_all test s)
 
--- the words from `at` on up to place i are counted and tried
-pub record CountedOn (line : List ℕ) (at : ℕ) (good : Bool) (many i : ℕ) : Type 0 where
-  pub within : i ≤ length line
-  pub few : many ≤ i
-  pub tried : good && all is_name (words_of (drop i line)) ≡ all is_name (words_of (drop at line))
-  pub counted : many + length (words_of (drop i line)) ≡ length (words_of (drop at line))
+pub among : (name : Word) (words : List Word) → list_any (pointwise eqb name) words ≡ any (alike name) words
+among name [] = refl
+among name (word ∷ words) = ap₂ (λ (p q : Bool). p || q) (alike-pointwise name word) (among name words)
 
-pub counted_start : (line : List ℕ) (at : ℕ) → at ≤ length line → CountedOn line at true 0 at
-counted_start line at l =
-    record { within = l; few = omega arith; tried = refl; counted = omega arith }
-
-module _ (line : List ℕ) (at : ℕ) (good : Bool) (many i : ℕ) (now : CountedOn line at good many i) where
-  pub counted-all : words_of (drop i line) ≡ []
-      → CountsNames (words_of (drop at line)) (record { good = good; many = many })
-  counted-all none =
-      record {
-        good = sym (and-true good) ∙ (rw none at now.tried);
-        many = let e = rw none at now.counted in omega arith;
-      }
-
-  pub counted_step : (word : Span) → Next line i word → (word.start ≡ word.end → ⊥) → (test : Bool)
-      → test ≡ every in_name (word_at line word)
-      → CountedOn line at (good && test) (many + 1) word.end
-  counted_step word next some test e =
-      let here = there line i word next some in
-      let l = next.from in
-      let m = next.ordered in
-      let few = now.few in
-      let sum = rw here at now.counted in
-      record {
-        within = next.within now.within;
-        few = omega arith;
-        tried =
-            and_assoc good test (all is_name (words_of (drop word.end line)))
-            ∙ (rw (here, ← e) at now.tried);
-        counted = omega arith;
-      }
-
-module _ (line : List ℕ) (i : ℕ) (word : Span) (next : Next line i word)
-    (some : word.start ≡ word.end → ⊥) where
-  module _ (name : List ℕ) where
-    pub occurs-here : true ≡ alike name (word_at line word)
-        → true ≡ any (alike name) (words_of (drop i line))
-    occurs-here e = rw (there line i word next some, ← e)
-
-    pub occurs-on : false ≡ alike name (word_at line word)
-        → any (alike name) (words_of (drop word.end line)) ≡ any (alike name) (words_of (drop i line))
-    occurs-on e = rw (there line i word next some, ← e)
-
-  pub repeats-here :
-      true ≡ any (alike (word_at line word)) (words_of (drop word.end line))
-      → true ≡ repeats (words_of (drop i line))
+-- the first word left, and whether it comes again
+module _ (left others : List Word) (name : Word) (e : left ≡ name ∷ others) (again : Bool)
+    (found : again ≡ list_any (pointwise eqb name) others) where
+  pub repeats-here : again ≡ true → true ≡ repeats left
   unfolding repeats
-  repeats-here e = rw (there line i word next some, ← e)
+  repeats-here is = rw (e, sym (among name others), sym found ∙ is)
 
-  pub repeats-on :
-      false ≡ any (alike (word_at line word)) (words_of (drop word.end line))
-      → repeats (words_of (drop word.end line)) ≡ repeats (words_of (drop i line))
+  pub repeats-on : again ≡ false → repeats others ≡ repeats left
   unfolding repeats
-  repeats-on e = rw (there line i word next some, ← e)
+  repeats-on new = rw (e, sym (among name others), sym found ∙ new)
 
-pub occurs-none : (name : List ℕ) (words : List Word) → words ≡ [] → false ≡ any (alike name) words
-occurs-none name words none = rw none
-
-pub repeats-none : (words : List Word) → words ≡ [] → false ≡ repeats words
+pub repeats-none : (left : List Word) → left ≡ [] → false ≡ repeats left
 unfolding repeats
-repeats-none words none = rw none
+repeats-none left e = rw e
 
--- the line's first word, and the names after it
-module _ (line : List ℕ) (word : Span) (next : Next line 0 word) (counted : Counted)
-    (names : CountsNames (words_of (drop word.end line)) counted)
-    (first : Bool) (e : first ≡ alike (word_at line word) dot_names) where
-  abbrev rest : List Word
-  rest = words_of (drop word.end line)
-
-  abbrev good : Bool
-  good = first && (ltb 0 counted.many && counted.good)
-
-  -- a line without words opens none
-  no_word : word.start ≡ word.end → first ≡ false
-  no_word none = let z : word.end - word.start ≡ 0 = omega arith in e ∙ rw z
-
-  opens-good : (others : List (List Word)) → good ≡ opens (words_of line ∷ others)
+-- the line's first word, and those after it
+module _ (line : List ℕ) (first : Word) (names : Names) (many : ℕ) (starts named : Bool)
+    (e : words_of line ≡ first ∷ words_left names.words)
+    (count : many ≡ length (words_left names.words))
+    (start : starts ≡ pointwise eqb first dot_names)
+    (tried : named ≡ list_all is_name (words_left names.words)) where
+  opens-is : (others : List (List Word))
+      → opens (words_of line ∷ others) ≡ (starts && (ltb 0 many && named))
   unfolding opens
-  opens-good others =
-      byBool (eqb word.start word.end)
-      (λ same.
-      let none = eqb-true _ _ same in
-      rw (no_word none, next.none none))
-      (λ other. rw (there line 0 word next (eqb-false _ _ other), e, names.good, names.many))
+  opens-is others =
+      rw (
+        e,
+        start ∙ alike-pointwise first dot_names,
+        count,
+        tried ∙ all-list_all is_name (words_left names.words),
+      )
 
-  opens-words : good ≡ true → words_of line ≡ dot_names ∷ rest
-  opens-words right =
-      let is = both_left first _ right in
-      let some : word.start ≡ word.end → ⊥ = λ none. clash is (no_word none) in
-      there line 0 word next some
-      ∙ ap (λ (w : Word). w ∷ rest) (alike-eq (word_at line word) dot_names (sym e ∙ is))
+  pub opens-not : (starts && (ltb 0 many && named)) ≡ false
+      → (others : List (List Word)) → opens (words_of line ∷ others) ≡ false
+  opens-not fails others = opens-is others ∙ fails
 
-  pub opens-is : Opens line (record { good = good; at = word.end; many = counted.many })
-  opens-is =
+  pub opens-so : (starts && (ltb 0 many && named)) ≡ true → names.inputs ≡ many - 1 → Opened line names
+  opens-so passes inputs =
+      let same = sym (alike-pointwise first dot_names) ∙ sym start ∙ both_left starts _ passes in
+      let some = ltb-true 0 many (both_left (ltb 0 many) named (both_right starts _ passes)) in
       record {
-        good = opens-good;
-        within = next.within (omega arith);
-        words = opens-words;
-        many = λ right. names.many;
-        some = λ right. ltb-true 0 _ (both_left (ltb 0 counted.many) _ (both_right first _ right));
+        good = λ others. opens-is others ∙ passes;
+        words = e ∙ ap (λ (w : Word). w ∷ words_left names.words) (alike-eq first dot_names same);
+        many = omega arith;
       }
+
+-- a line without words opens no part
+pub opens-none : (line : List ℕ) → words_of line ≡ []
+    → (others : List (List Word)) → opens (words_of line ∷ others) ≡ false
+unfolding opens
+opens-none line none others = rw none

@@ -1,37 +1,34 @@
 -- From what was gathered of a part to its table or its refusal. Assumes nothing.
+use Rattle.std.specs.Prelude.{Err}
 use mathlib.Core.Path.{◌≡◌, refl, sym, ap, ◌∙◌}
 use mathlib.Core.Bool.{Bool, true, false, ◌||◌, or_comm, or-false, and-true}
 use mathlib.Core.List.{List, [], ◌∷◌}
 use Prim.Native.Nat.{ℕ, ◌≤◌}
 use native.Mathlib.Omega.{arith}
-use lib.Dec.{eqb, ltb}
+use lib.Dec.{eqb}
 use lib.Pow.{pow_mono}
 use lib.ListN.{length}
-use borrow.Author.Tests.{le-ltb}
 use Rattle.bits.specs.Tests.{◌⊕◌, all, any}
 use Rattle.bits.proofs.TestLaws.{both_left, both_right, either-false}
 use Rattle.bits.proofs.SearchLaws.{byBool, clash}
 use Rattle.block.specs.declared.Refusal.{Refusal}
-use Rattle.block.specs.declared.Written.TheVariants.{Length, Refused}
 use Rattle.block.specs.Table.{table_bytes, table_of}
 use Rattle.block.specs.Refusal.{number_of}
 use Rattle.block.specs.Answer.{answered, buffer_after}
-use Rattle.block.proofs.AnswerLaws.{answered-parts, answered-refused, written-number}
+use Rattle.block.proofs.AnswerLaws.{answered-refused}
 use Rattle.block.proofs.RefusalLaws.{at-refusal}
-use Rattle.block.proofs.TableLaws.{table_of-length, table_of-ext}
+use Rattle.block.proofs.TableLaws.{table_of-ext}
 use Rattle.words.specs.Text.{Word}
-use Rattle.marks.specs.Rows.{rows_table, WritesRows}
-use Rattle.blif.specs.declared.Cover as cover
-use Rattle.blif.specs.declared.Cover.TheVariants.{Table}
+use Rattle.marks.specs.Rows.{rows_table}
 use Rattle.blif.specs.declared.lines.Gathered.{Gathered}
 use Rattle.blif.specs.Part.{inputs_of, marks_of, gives, line_words, fits_marks, is_cover_line, both_outputs}
 use Rattle.blif.specs.Cover.{covered, value_at, cover_table, cover_refusal, ReadsPart}
-use Rattle.blif.specs.Reading.{some_covers, Gathers, room_refusal, WritesTable}
+use Rattle.blif.specs.Reading.{some_covers, AllGathered}
 
 -- a refusal of the whole part
 pub part-refused : (content : List (List Word)) (k : Refusal) (before : List ℕ)
     → number_of k ≡ cover_refusal content (length before)
-    → ReadsPart content before before (cover.TheVariants.Refused k)
+    → ReadsPart content before before (Err k)
 part-refused content k before e =
     record {
       told =
@@ -101,40 +98,10 @@ value-turned inputs lines row good apart =
 
 -- the table that is written is the part's
 pub table-turned : (inputs : ℕ) (lines : List (List Word)) (g : Gathered) → inputs ≤ 9
-    → Gathers inputs lines g → g.good ≡ true → both_outputs lines ≡ false
+    → AllGathered inputs lines g → both_outputs lines ≡ false
     → rows_table inputs g.rows.words g.zeros ≡ table_of inputs (value_at lines)
-table-turned inputs lines g few so good apart =
+table-turned inputs lines g few so apart =
     table_of-ext inputs _ _ (λ row l.
     let most = pow_mono few in
-    rw (so.zeros good, so.rows good few row (omega arith))
-    (sym (value-turned inputs lines row (sym so.good ∙ good) apart)))
-
--- how the rows were written is how the table is
-module _ (n : ℕ) (g : Gathered) (few : n ≤ 9) (before after : List ℕ) where
-  abbrev table : List ℕ
-  table = rows_table n g.rows.words g.zeros
-
-  few-inputs : ltb 9 n ≡ false
-  few-inputs = le-ltb 9 n few
-
-  pub table-written : (used : ℕ) → WritesRows n g.rows.words g.zeros before after (Length used)
-      → WritesTable n g before after (Table n used)
-  table-written used w =
-      let told = rw few-inputs at w.told in
-      let parts = answered-parts (room_refusal n (length before)) 0 (length table) used told in
-      record {
-        told = rw (parts.0, parts.1, table_of-length);
-        kept = rw few-inputs at w.kept;
-      }
-
-  pub table-refused : (k : Refusal) → WritesRows n g.rows.words g.zeros before after (Refused k)
-      → WritesTable n g before after (cover.TheVariants.Refused k)
-  table-refused k w =
-      let number : number_of k ≡ room_refusal n (length before) =
-      rw few-inputs at (written-number _ table before after (Refused k) w) in
-      record {
-        told =
-            sym (answered-refused (0, 0) (n, table_bytes n) k)
-            ∙ ap (λ (m : ℕ). answered m (0, 0) (n, table_bytes n)) number;
-        kept = rw few-inputs at w.kept;
-      }
+    rw (so.zeros, so.rows few row (omega arith))
+    (sym (value-turned inputs lines row so.good apart)))

@@ -1,5 +1,6 @@
 -- Reading a cover: n and the truth table of one `.names` part (request 2). Assumes nothing.
-use Rattle.std.specs.Prelude.{ℕ, ◌≡◌, Bool, not, ◌&&◌, ◌||◌, List, [], ◌∷◌, ltb, length, replicate}
+use Rattle.std.specs.Prelude.{ℕ, ◌≡◌, Bool, not, ◌&&◌, ◌||◌, List, [], ◌∷◌, ltb, length, replicate, Err, Ok, Result}
+use Rattle.block.specs.declared.Refusal.{Refusal}
 use Rattle.bits.specs.Tests.{any}
 use Rattle.block.specs.Table.{most_inputs, table_bytes, table_of}
 use Rattle.block.specs.Refusal.{◌when◌, Case, first_of, number_of, too_many_inputs}
@@ -7,7 +8,6 @@ use Rattle.block.specs.Answer.{Answer, answer, answered, buffer_after}
 use Rattle.words.specs.Text.{Word, content_of}
 use Rattle.marks.specs.Marks.{covers}
 use Rattle.blif.specs.declared.Cover.{Cover}
-use Rattle.blif.specs.declared.Cover.TheVariants.{Table, Refused}
 use Rattle.blif.specs.Part.{names_of, cover_of, inputs_of, marks_of, gives, is_part, repeats, both_outputs}
 
 -- a line with this output covers row r
@@ -39,13 +39,13 @@ unfoldable pub cover_refusal : (content : List (List Word)) (room : ℕ) → ℕ
 cover_refusal content room = first_of (cover_cases content room)
 
 -- reading answers n and the length in use
-abbrev pub read_of : Cover → Answer (ℕ × ℕ)
-read_of (Table n used) = answer 0 (n, used)
-read_of (Refused k) = answer (number_of k) (0, 0)
+abbrev pub read_of : Result Cover Refusal → Answer (ℕ × ℕ)
+read_of (Ok x) = answer 0 (x.n, x.used)
+read_of (Err k) = answer (number_of k) (0, 0)
 
 -- what reading a part promises, by its content: n and the length in use, or the refusal; the table at
 -- the start of the lent buffer
-pub record ReadsPart (content : List (List Word)) (before after : List ℕ) (r : Cover) : Type 0 where
+pub record ReadsPart (content : List (List Word)) (before after : List ℕ) (r : Result Cover Refusal) : Type 0 where
   pub told :
       read_of r
       ≡ answered (cover_refusal content (length before)) (0, 0)
@@ -57,5 +57,5 @@ abbrev pub table_room : List ℕ
 table_room = replicate (table_bytes most_inputs) 0
 
 -- what reading a cover promises
-abbrev pub Reads : (text before after : List ℕ) (r : Cover) → Type 0
+abbrev pub Reads : (text before after : List ℕ) (r : Result Cover Refusal) → Type 0
 Reads text before after r = ReadsPart (content_of text) before after r

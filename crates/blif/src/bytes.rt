@@ -2,15 +2,7 @@
 ghost use Rattle.std.specs.Prelude.{◌≡◌};
 ghost use Rattle.bits.specs.Tests.{every};
 ghost use Rattle.marks.specs.Marks.{is_mark};
-ghost use Rattle.blif.specs.Part.{in_name};
-ghost use Rattle.blif.specs.Reading.{is_of};
-
-// A byte of a name, or a mark.
-#[derive(Clone, Copy)]
-pub enum Sort {
-    Name,
-    Mark,
-}
+ghost use Rattle.blif.specs.Part.{in_name, is_name};
 
 fn in_name(b: u8) -> bool
     ensures { result ≡ in_name b }
@@ -24,23 +16,16 @@ fn is_mark(b: u8) -> bool
     (b == b'0') | ((b == b'1') | (b == b'-'))
 }
 
-fn is_of(sort: Sort, b: u8) -> bool
-    ensures { result ≡ is_of sort b }
+// Whether every byte may stand in a name.
+pub(crate) fn is_name(word: &[u8]) -> bool
+    ensures { result ≡ is_name word.now }
 {
-    match sort {
-        Sort::Name => in_name(b),
-        Sort::Mark => is_mark(b),
-    }
+    word.iter().all(|&b| in_name(b))
 }
 
-// Whether every byte is of the sort.
-pub(crate) fn are(sort: Sort, word: &[u8]) -> bool
-    ensures { result ≡ every (is_of sort) word.now }
+// Whether every byte is a mark.
+pub(crate) fn are_marks(word: &[u8]) -> bool
+    ensures { result ≡ every is_mark word.now }
 {
-    for i in 0..word.len() {
-        if !is_of(sort, word[i]) {
-            return false;
-        }
-    }
-    true
+    word.iter().all(|&b| is_mark(b))
 }

@@ -1,14 +1,13 @@
 -- A writer's promise leaves one answer and one buffer. Assumes nothing.
+use Rattle.std.specs.Prelude.{Err, Ok, Result, IsOk}
 use mathlib.Core.Path.{◌≡◌, refl, sym, ap, ◌∙◌}
 use mathlib.Core.List.{List, [], ◌++◌}
 use Prim.Native.Nat.{ℕ, zero, suc}
 use native.Mathlib.Omega.{arith}
 use lib.ListN.{length, drop}
 use Rattle.block.specs.declared.Refusal.{Refusal}
-use Rattle.block.specs.declared.Written.{Written}
-use Rattle.block.specs.declared.Written.TheVariants.{Length, Refused}
 use Rattle.block.specs.Refusal.{number_of}
-use Rattle.block.specs.Answer.{Answer, answer, answered, written_of, buffer_after, Writes}
+use Rattle.block.specs.Answer.{Answer, answer, answered, answer_of, written_of, buffer_after, Writes}
 use Rattle.block.specs.Answer.{Fills, refused, filled}
 use Rattle.block.proofs.RefusalLaws.{at-refusal, number-injective}
 
@@ -24,25 +23,38 @@ never-refused {A} x y r =
     at-refusal (λ k. answer 0 x ≡ answer k y → ⊥)
     (λ k e. let z : 0 ≡ suc k = ap (λ (a : Answer A). a.number) e in omega arith) r
 
-same-written : (r q : Written) → written_of r ≡ written_of q → r ≡ q
-same-written (Length a) (Length b) e = ap Length (ap (λ (x : Answer ℕ). x.parts) e)
-same-written (Length a) (Refused k) e = absurd (never-refused a 0 k e)
-same-written (Refused k) (Length b) e = absurd (never-refused b 0 k (sym e))
-same-written (Refused k) (Refused m) e =
-    ap Refused (number-injective k m (ap (λ (x : Answer ℕ). x.number) e))
+-- a refusal's number is none of success
+pub some-number : (k : Refusal) → number_of k ≡ 0 → ⊥
+some-number = at-refusal (λ m. m ≡ 0 → ⊥) (λ m z. omega arith)
 
-pub written-unique : (refusal : ℕ) (bytes before after after' : List ℕ) (r q : Written)
+-- an answer with number 0 is success
+pub success : {A B : Type 0} (parts : A → B) (none : B) (r : Result A Refusal)
+    → (answer_of parts none r).number ≡ 0 → IsOk r
+success parts none (Ok x) e = refl
+success parts none (Err k) e = absurd (some-number k e)
+
+-- results that are answered alike are the same, where their values' parts tell them apart
+pub same-answer : {A B : Type 0} (parts : A → B) (none : B) → ((x y : A) → parts x ≡ parts y → x ≡ y)
+    → (r q : Result A Refusal) → answer_of parts none r ≡ answer_of parts none q → r ≡ q
+same-answer {A} {B} parts none apart (Ok x) (Ok y) e =
+    ap Ok (apart x y (ap (λ (a : Answer B). a.parts) e))
+same-answer parts none apart (Ok x) (Err k) e = absurd (never-refused (parts x) none k e)
+same-answer parts none apart (Err k) (Ok y) e = absurd (never-refused (parts y) none k (sym e))
+same-answer {A} {B} parts none apart (Err k) (Err m) e =
+    ap Err (number-injective k m (ap (λ (a : Answer B). a.number) e))
+
+pub written-unique : (refusal : ℕ) (bytes before after after' : List ℕ) (r q : Result ℕ Refusal)
     → Writes refusal bytes before after r → Writes refusal bytes before after' q
     → (r ≡ q) × (after ≡ after')
 written-unique refusal bytes before after after' r q p p' =
-    (same-written r q (p.told ∙ sym p'.told), p.kept ∙ sym p'.kept)
+    (same-answer _ 0 (λ x y e. e) r q (p.told ∙ sym p'.told), p.kept ∙ sym p'.kept)
 
 pub answered-number : {A : Type 0} (k : ℕ) (none parts : A) → (answered k none parts).number ≡ k
 answered-number zero none parts = refl
 answered-number (suc k) none parts = refl
 
 -- a writer's number is its refusal's
-pub written-number : (refusal : ℕ) (bytes before after : List ℕ) (r : Written)
+pub written-number : (refusal : ℕ) (bytes before after : List ℕ) (r : Result ℕ Refusal)
     → Writes refusal bytes before after r → (written_of r).number ≡ refusal
 written-number refusal bytes before after r w =
     ap (λ (a : Answer ℕ). a.number) w.told ∙ answered-number refusal 0 (length bytes)
@@ -56,7 +68,7 @@ answered-parts {A} (suc k) none parts x e =
 
 -- a writer that refused, and one that wrote
 pub writes-refused : (k : Refusal) (refusal : ℕ) (bytes buffer : List ℕ) → number_of k ≡ refusal
-    → Writes refusal bytes buffer buffer (Refused k)
+    → Writes refusal bytes buffer buffer (Err k)
 writes-refused k refusal bytes buffer e =
     record {
       told = sym (answered-refused 0 (length bytes) k) ∙ ap (λ (m : ℕ). answered m 0 (length bytes)) e;
@@ -67,19 +79,19 @@ writes-refused k refusal bytes buffer e =
 
 pub writes_bytes : (refusal : ℕ) (bytes before after : List ℕ) (used : ℕ) → 0 ≡ refusal
     → used ≡ length bytes
-    → after ≡ bytes ++ drop (length bytes) before → Writes refusal bytes before after (Length used)
+    → after ≡ bytes ++ drop (length bytes) before → Writes refusal bytes before after (Ok used)
 writes_bytes refusal bytes before after used e u w = record { told = rw (← e, u); kept = rw (← e) w }
 
 -- the same where the bytes are themselves promised
 pub fills-refused : (k : Refusal) (refusal : ℕ) (P : List ℕ → Type 0) (buffer : List ℕ)
-    → number_of k ≡ refusal → Fills refusal P buffer buffer (Refused k)
+    → number_of k ≡ refusal → Fills refusal P buffer buffer (Err k)
 fills-refused k refusal P buffer e =
-    refused (λ z. at-refusal (λ m. m ≡ 0 → ⊥) (λ m s. omega arith) k (e ∙ z))
+    refused (λ z. some-number k (e ∙ z))
     (writes-refused k refusal [] buffer e)
 
 pub fills-bytes : (refusal : ℕ) (P : List ℕ → Type 0) (bytes before after : List ℕ) (used : ℕ)
     → refusal ≡ 0 → P bytes → used ≡ length bytes → after ≡ bytes ++ drop (length bytes) before
-    → Fills refusal P before after (Length used)
+    → Fills refusal P before after (Ok used)
 fills-bytes refusal P bytes before after used none p size kept =
     filled none bytes p (writes_bytes 0 bytes before after used refl size kept)
 
@@ -90,15 +102,15 @@ nothing_written (suc k) buffer = refl
 
 -- a refusal tells its number, and changes no byte
 pub fills-kept : (refusal : ℕ) (P : List ℕ → Type 0) (before after : List ℕ) (k : Refusal)
-    → Fills refusal P before after (Refused k) → (number_of k ≡ refusal) × (after ≡ before)
+    → Fills refusal P before after (Err k) → (number_of k ≡ refusal) × (after ≡ before)
 fills-kept refusal P before after k (refused some w) =
-    (written-number refusal [] before after (Refused k) w, w.kept ∙ sym (nothing_written refusal before))
+    (written-number refusal [] before after (Err k) w, w.kept ∙ sym (nothing_written refusal before))
 fills-kept refusal P before after k (filled none bytes p w) =
     absurd (never-refused (length bytes) 0 k (sym w.told))
 
 -- if one list of bytes is promised, one answer and one buffer are
 pub fills-unique : (refusal : ℕ) (P : List ℕ → Type 0) → ((a b : List ℕ) → P a → P b → a ≡ b)
-    → (before after after' : List ℕ) (r q : Written) → Fills refusal P before after r
+    → (before after after' : List ℕ) (r q : Result ℕ Refusal) → Fills refusal P before after r
     → Fills refusal P before after' q → (r ≡ q) × (after ≡ after')
 fills-unique refusal P one before after after' r q (refused some w) (refused some' w') =
     written-unique refusal [] before after after' r q w w'

@@ -4,7 +4,9 @@
 
 #![tactic(auto)]
 
-ghost use Rattle.std.specs.Prelude.{◌≡◌, not, ◌||◌, [], ◌∷◌, ◌<◌, eqb};
+ghost use Rattle.std.specs.Prelude.{◌≡◌, not, ◌||◌, [], ◌∷◌, ◌<◌, ◌≤◌, ◌^◌, eqb, IfOk, Err};
+ghost use Rattle.block.specs.declared.Refusal.{Refusal};
+ghost use Rattle.block.specs.declared.Refusal.TheVariants.{TooManyInputs};
 ghost use Rattle.std.specs.Int.Bits.{bit_and};
 ghost use Rattle.block.specs.Block.{is_open};
 ghost use Rattle.block.specs.Code.{lut_of};
@@ -69,36 +71,63 @@ pub struct Kind {
     pub digit: u8,
 }
 
-// The numbered refusals of document 01 and of the requests.
+// The refusals of document 01 and of the requests, by their numbers.
 #[derive(Clone, Copy)]
 pub enum Refusal {
-    R1,
-    R2,
-    R3,
-    R4,
-    R5,
-    R6,
-    R7,
-    R8,
-    R9,
-    R10,
-    R11,
-    R12,
-    R13,
-    R14,
-    R15,
-    R16,
-    R17,
+    TooManyInputs = 1,
+    WrongLength = 2,
+    PaddingSet = 3,
+    NoMatch = 4,
+    NoRoom = 5,
+    StrayField = 6,
+    OutOfOrder = 7,
+    OpenRowSet = 8,
+    LastBitsSet = 9,
+    Unassigned = 10,
+    NotAbove = 11,
+    NotThere = 12,
+    NoSuchRow = 13,
+    BrokenBuild = 14,
+    NoCover = 15,
+    NameTwice = 16,
+    BothOutputs = 17,
 }
 
-// The answer of a writer.
+// A number of inputs that a table can have: nine at most.
 #[derive(Clone, Copy)]
-pub enum Written {
-    Length(usize),
-    Refused(Refusal),
+pub struct Inputs {
+    n: u8,
+    ghost within: { n ≤ 9 },
 }
 
-// How many bytes a table of n inputs has; 0 for n above nine, of which there is no table.
+impl Inputs {
+    // 1 where n is above nine.
+    pub fn new(n: u8) -> Result<Inputs, Refusal>
+        ensures ok { IfOk result (λ inputs. inputs.n ≡ n) }
+        ensures err { (k : Refusal) → result ≡ Err k → (k ≡ TooManyInputs) × (9 < n) }
+    {
+        if MOST_INPUTS < n {
+            return Err(Refusal::TooManyInputs);
+        }
+        Ok(Inputs { n })
+    }
+
+    pub fn number(self) -> u8
+        ensures { result ≡ self.n }
+    {
+        self.n
+    }
+
+    // How many rows a table of so many inputs has.
+    pub fn rows(self) -> u16
+        ensures { result ≡ 2 ^ self.n }
+    {
+        1 << self.n
+    }
+}
+
+// How many bytes a table of n inputs has; 0 for n above nine, of which there is no table: `table_length`, which
+// it promises, has 0 there.
 pub fn table_bytes(n: u8) -> usize
     ensures { result ≡ table_length n }
 {
@@ -145,23 +174,5 @@ pub fn direct_quiet(direct: u8, h: u8) -> bool
 pub fn number(k: Refusal) -> u8
     ensures { result ≡ number_of k }
 {
-    match k {
-        Refusal::R1 => 1,
-        Refusal::R2 => 2,
-        Refusal::R3 => 3,
-        Refusal::R4 => 4,
-        Refusal::R5 => 5,
-        Refusal::R6 => 6,
-        Refusal::R7 => 7,
-        Refusal::R8 => 8,
-        Refusal::R9 => 9,
-        Refusal::R10 => 10,
-        Refusal::R11 => 11,
-        Refusal::R12 => 12,
-        Refusal::R13 => 13,
-        Refusal::R14 => 14,
-        Refusal::R15 => 15,
-        Refusal::R16 => 16,
-        Refusal::R17 => 17,
-    }
+    k as u8
 }

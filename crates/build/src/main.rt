@@ -3,11 +3,11 @@
 
 #![tactic(auto)]
 
-ghost use Rattle.std.specs.Prelude.{◌≡◌, ◌≤◌, length};
+ghost use Rattle.std.specs.Prelude.{◌≤◌, length};
 ghost use Rattle.block.specs.Refusal.{number_of};
 ghost use Rattle.listing.specs.Listing.{IsPrinted};
 
-use block::{Refusal, Written};
+use block::Refusal;
 use input::Input;
 
 // The longest build, 65,536 bytes, and one byte more: what fills it is too long.
@@ -16,21 +16,8 @@ const ROOM: usize = 65537;
 // The longest line for each of 32,768 requests: a request has two bytes or more.
 const LINES_ROOM: usize = 819200;
 
-// Zeros. A caller's proof knows their number and does not count them.
-fn room() -> [u8; ROOM]
-    ensures { 65537 ≡ length result }
-{
-    [0; ROOM]
-}
-
-// The same for the lines.
-fn lines_room() -> [u8; LINES_ROOM]
-    ensures { 819200 ≡ length result }
-{
-    [0; LINES_ROOM]
-}
-
-// A sentence that cannot be written is let go.
+// A sentence that cannot be written is let go. This and `print` stand in each program: of what is written no contract
+// speaks, so that a public function would promise nothing.
 fn complain(rt: &impl Eprint, sentence: &str) {
     let _ = rt.eprint(sentence);
 }
@@ -41,26 +28,15 @@ fn print(rt: &(impl Print + Eprint), text: &[u8]) {
     }
 }
 
-// A text that does not fit: there is none, and 0 is no refusal.
-fn unfit(number: u8)
-    requires { number ≡ 0 }
-{}
-
-// 0 is no refusal, and 14 has been explained.
-fn explained(number: u8)
-    requires { number ≡ 0 }
-{}
-
-// What the number of a refusal of the whole build means.
-fn explain(rt: &impl Eprint, number: u8)
-    requires { IsPrinted number }
+// What a refusal of the whole build means.
+fn meaning(refusal: Refusal) -> &'static str
+    requires { IsPrinted (number_of refusal) }
 {
-    match number {
-        14 => complain(
-            rt,
-            "build: 14 means that a request has n above 9, or that its table runs past the end\n",
-        ),
-        _ => explained(number),
+    match refusal {
+        Refusal::BrokenBuild => {
+            "build: 14 means that a request has n above 9, or that its table runs past the end\n"
+        }
+        _ => unreachable!(),
     }
 }
 
@@ -68,23 +44,22 @@ fn explain(rt: &impl Eprint, number: u8)
 fn answer(rt: &(impl Print + Eprint), build: &[u8])
     requires { length build.now ≤ 65536 }
 {
-    let mut text = lines_room();
+    let mut text = input::room::<LINES_ROOM>();
     let said = listing::say(build, &mut text);
-    let line = said.line;
-    match line {
-        Written::Length(used) => print(rt, &text[0..used]),
-        Written::Refused(k) => unfit(block::number(k)),
+    let used = said.line.unwrap();
+    print(rt, &text[..used]);
+    if let Some(refusal) = said.refusal {
+        complain(rt, meaning(refusal));
     }
-    explain(rt, said.number);
 }
 
 // A build that is not read whole has no line.
+#[tactic(auto, using(input::proofs::RoomLaws::whole_within, input::proofs::RoomLaws::whole_taken))]
 fn main(rt: HostRuntime) {
-    let mut bytes = room();
-    let got = input::read(&mut rt.stdin(), &mut bytes);
-    match got {
-        Input::Whole(used) => answer(&rt, &bytes[0..used]),
-        Input::Longer => complain(&rt, "build: the build is longer than 65,536 bytes\n"),
-        Input::Failed(_) => complain(&rt, "build: standard input could not be read\n"),
+    let mut bytes = input::room::<ROOM>();
+    match input::read(&mut rt.stdin(), &mut bytes) {
+        Ok(Input::Whole(used)) => answer(&rt, &bytes[..used]),
+        Ok(Input::Longer) => complain(&rt, "build: the build is longer than 65,536 bytes\n"),
+        Err(_) => complain(&rt, "build: standard input could not be read\n"),
     }
 }

@@ -1,5 +1,7 @@
 -- A successful append leaves the records that were there and the new one after them; given room, a
 -- record that the rules allow there is never refused. Assumes nothing.
+use Rattle.std.specs.Prelude.{Ok, Result}
+use Rattle.record.specs.declared.Refused.{Refused}
 use mathlib.Core.Path.{◌≡◌, refl, sym, ap, ◌∙◌}
 use mathlib.Core.List.{List, [], ◌∷◌, ◌++◌, append-nil}
 use Prim.Native.Nat.{ℕ, ◌+◌, ◌<◌, ◌≤◌}
@@ -7,8 +9,6 @@ use native.Mathlib.Omega.{arith}
 use lib.ListN.{length, take, drop, length-append}
 use Rattle.block.specs.Answer.{answer}
 use Rattle.bits.specs.Bits.{Bytes}
-use Rattle.record.specs.declared.Told.{Told}
-use Rattle.record.specs.declared.Told.TheVariants.{Value}
 use Rattle.record.specs.Record.{Record, record_bytes, lay_out, key_of}
 use Rattle.record.specs.Told.{placed}
 use Rattle.record.proofs.ToldLaws.{told-fine, fine_of, told-unique}
@@ -65,7 +65,7 @@ longer-by rs r s used listed is room =
 
 -- any successful append
 module _ (s : List ℕ) (used : ℕ) (r : Record) (s' : List ℕ) (used' : ℕ)
-    (bytes : Bytes s) (ten : Bytes r.ten) (given : Appends s used r s' (Value used')) where
+    (bytes : Bytes s) (ten : Bytes r.ten) (given : Appends s used r s' (Ok used')) where
   succeeded : ((append_fault s used r).number ≡ 0) × (used' ≡ used + record_bytes)
   succeeded = fine_of (append_fault s used r) used' 0 (used + record_bytes) given.answer
 
@@ -106,9 +106,9 @@ module _ (s : List ℕ) (used : ℕ) (r : Record) (s' : List ℕ) (used' : ℕ)
       ∙ ap (λ (t : List ℕ). place_answer t (key_of r')) was)
 
 -- what appending an allowed record answers, and what it leaves
-pub record Succeeds (rs : List Record) (r : Record) (s : List ℕ) (used : ℕ) (s' : List ℕ) (q : Told)
+pub record Succeeds (rs : List Record) (r : Record) (s : List ℕ) (used : ℕ) (s' : List ℕ) (q : Result ℕ Refused)
     : Type 0 where
-  pub answer : q ≡ Value (used + record_bytes)
+  pub answer : q ≡ Ok (used + record_bytes)
   pub longer : Longer rs r s used s' (used + record_bytes)
 
 fine-of-listed : (rs : List Record) (r : Record) (s : List ℕ) (used : ℕ) → Listed (rs ++ (r ∷ []))
@@ -124,7 +124,7 @@ fine-of-listed rs r s used listed is room =
       few = rw same (omega arith);
     }
 
-pub appends-listed : (rs : List Record) (r : Record) (s : List ℕ) (used : ℕ) (s' : List ℕ) (q : Told)
+pub appends-listed : (rs : List Record) (r : Record) (s : List ℕ) (used : ℕ) (s' : List ℕ) (q : Result ℕ Refused)
     → Listed (rs ++ (r ∷ [])) → take used s ≡ sheet_of rs → used + record_bytes ≤ length s
     → Appends s used r s' q → Succeeds rs r s used s' q
 appends-listed rs r s used s' q listed is room given =
@@ -133,6 +133,6 @@ appends-listed rs r s used s' q listed is room given =
     let value = given.answer ∙ told-fine (append_fault s used r) 0 used' none in
     let same : s' ≡ appended 0 s used r = rw none at given.kept in
     record {
-      answer = told-unique q (Value used') (answer 0 (placed 0 used')) value refl;
+      answer = told-unique q (Ok used') (answer 0 (placed 0 used')) value refl;
       longer = rw same (longer-by rs r s used listed is room);
     }

@@ -1,6 +1,8 @@
 -- Records that the rules allow, appended one by one from an empty sheet with room for them, are all
 -- there: the sheet is accepted, each is found by its pair and read at its place, and no byte after
 -- them has changed. By induction over the records still to come. Assumes nothing.
+use Rattle.std.specs.Prelude.{Result}
+use Rattle.record.specs.declared.Refused.{Refused}
 use mathlib.Core.Path.{◌≡◌, refl, sym, ap, ◌∙◌}
 use mathlib.Core.List.{List, [], ◌∷◌, ◌++◌, append_assoc, append-nil}
 use Prim.Native.Nat.{ℕ, ◌+◌, ◌*◌, ◌<◌, ◌≤◌}
@@ -9,7 +11,6 @@ use lib.ListN.{length, get_or, take, drop, length-append}
 use lib.Seq.{drop-drop}
 use denote.Ref.{Bor}
 use Rattle.block.specs.Answer.{answer}
-use Rattle.record.specs.declared.Told.{Told}
 use Rattle.record.specs.Record.{Record, record_bytes, zero_record, key_of}
 use Rattle.record.specs.Told.{placed, told_of}
 use Rattle.records.specs.Sheet.{sheet_of}
@@ -35,7 +36,7 @@ pub record Holds (rs : List Record) (start s : List ℕ) (used : ℕ) : Type 0 w
 drop_more : (m n : ℕ) (s t : List ℕ) → drop m s ≡ drop m t → drop (m + n) s ≡ drop (m + n) t
 drop_more m n s t e = sym (drop-drop n m s) ∙ ap (drop n) e ∙ drop-drop n m t
 
-holds_more : (rs : List Record) (r : Record) (start s : List ℕ) (used : ℕ) (s' : List ℕ) (q : Told)
+holds_more : (rs : List Record) (r : Record) (start s : List ℕ) (used : ℕ) (s' : List ℕ) (q : Result ℕ Refused)
     → Holds rs start s used → Succeeds rs r s used s' q
     → Holds (rs ++ (r ∷ [])) start s' (told_of q).parts.value
 holds_more rs r start s used s' q holds appends =

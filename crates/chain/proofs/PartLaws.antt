@@ -1,21 +1,22 @@
 -- What finding in a listed sheet hands back is the record's own ten bytes, and what is copied out is
 -- the record as it is laid out. Assumes nothing.
+use Rattle.std.specs.Prelude.{Err}
+use Rattle.record.specs.Told.{refused}
 use mathlib.Core.Path.{◌≡◌, sym, ap, ◌∙◌}
 use mathlib.Core.Bool.{false}
 use mathlib.Core.List.{List, [], ◌++◌}
-use Prim.Native.Nat.{ℕ, ◌+◌, ◌*◌, ◌<◌, ◌≤◌}
+use Prim.Native.Nat.{ℕ, ◌+◌, ◌-◌, ◌*◌, ◌<◌, ◌≤◌}
 use native.Mathlib.Omega.{arith}
 use borrow.Author.Tests.{lt-leb, le-ltb}
-use lib.ListN.{length, get_or, take, drop}
+use lib.ListN.{length, get_or, take, drop, length-drop}
+use lib.Seq.{take-add, drop_at, drop-drop, length-take-le}
 use denote.Ref.{Bor}
-use Rattle.block.specs.declared.Refusal.TheVariants.{R12}
+use Rattle.block.specs.declared.Refusal.TheVariants.{NotThere}
 use Rattle.codec.specs.Ten.{block_bytes}
-use Rattle.record.specs.declared.Told.TheVariants.{Refused}
 use Rattle.record.specs.Record.{Record, header_bytes, record_bytes, lay_out, record_of, zero_record, key_of}
 use Rattle.record.specs.Record.{has_key}
 use Rattle.record.proofs.ToldLaws.{fine_of, told-number}
 use Rattle.records.specs.Sheet.{sheet_of, bytes_at}
-use Rattle.records.proofs.WalkLaws.{ten-part}
 use Rattle.finding.specs.Find.{place_of, find_fault, Finds}
 use Rattle.finding.specs.Read.{read_fault, copy_fault, copied_into}
 use Rattle.chain.specs.Rules.{Listed}
@@ -24,6 +25,16 @@ use Rattle.chain.proofs.FollowsLaws.{follows-of-listed}
 use Rattle.chain.proofs.BytesLaws.{sheet_of-at}
 use Rattle.chain.proofs.ListedLaws.{sheet-length, records_of-sheet_of, accepted-of-listed}
 use Rattle.chain.proofs.ReadingLaws.{finds-listed, finds-absent}
+
+-- the ten bytes of a record as a part of the sheet
+ten-part : (s : List ℕ) (a : ℕ) → a + record_bytes ≤ length s
+    → take block_bytes (drop (a + header_bytes) s) ≡ drop header_bytes (take record_bytes (drop a s))
+ten-part s a within =
+    let rest = drop a s in
+    let long : length rest ≡ length s - a = length-drop a s in
+    let front = length-take-le header_bytes rest (omega arith) in
+    let back = drop_at (take header_bytes rest) (take block_bytes (drop header_bytes rest)) header_bytes front in
+    rw (take-add header_bytes block_bytes rest, back, drop-drop header_bytes a s)
 
 module _ (rs : List Record) (listed : Listed rs) where
   laid-at : (i : ℕ) → i < length rs
@@ -60,7 +71,7 @@ module _ (rs : List Record) (listed : Listed rs) where
     finds-nothing key none finds =
         let refused : 12 ≡ (find_fault s.now key).number =
         rw is
-        (told-number (Refused R12 0) (find_fault (sheet_of rs) key) (place_of (sheet_of rs) key)
+        (told-number (Err (refused NotThere 0)) (find_fault (sheet_of rs) key) (place_of (sheet_of rs) key)
         (sym (finds-absent rs listed key none))) in
         rw (← refused) at finds.part.bytes
 

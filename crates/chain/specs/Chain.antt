@@ -1,6 +1,6 @@
 -- Records appended one by one. Assumes nothing.
-use Rattle.std.specs.Prelude.{ℕ, List, [], ◌∷◌}
-use Rattle.record.specs.declared.Told.{Told}
+use Rattle.std.specs.Prelude.{ℕ, List, [], ◌∷◌, Result}
+use Rattle.record.specs.declared.Refused.{Refused}
 use Rattle.record.specs.Record.{Record}
 use Rattle.record.specs.Told.{told_of}
 use Rattle.append.specs.Append.{Appends}
@@ -9,6 +9,6 @@ use Rattle.append.specs.Append.{Appends}
 -- the promise; the next begins with the sheet and the length that the one before it answered
 pub data Chain : (rs : List Record) (s : List ℕ) (used : ℕ) (s' : List ℕ) (used' : ℕ) → Type 0 where
   done : {s : List ℕ} {used : ℕ} → Chain [] s used s used
-  more : {r : Record} {rs : List Record} {s s' s'' : List ℕ} {used used'' : ℕ} (q : Told)
+  more : {r : Record} {rs : List Record} {s s' s'' : List ℕ} {used used'' : ℕ} (q : Result ℕ Refused)
       → Appends s used r s' q → Chain rs s' (told_of q).parts.value s'' used''
       → Chain (r ∷ rs) s used s'' used''

@@ -1,4 +1,5 @@
 -- What each test of the packer decides, and what a packed block has. Assumes nothing.
+use Rattle.std.specs.Prelude.{Result}
 use mathlib.Core.Path.{◌≡◌, refl, sym, ◌∙◌}
 use mathlib.Core.Bool.{true, ◌&&◌}
 use mathlib.Core.List.{List, [], ◌∷◌}
@@ -18,7 +19,6 @@ use Rattle.block.specs.Refusal.{◌when◌, number_of, tidy_cases, tidy_refusal}
 use Rattle.block.proofs.TidyLaws.{fits_lt}
 use Rattle.block.proofs.RefusalLaws.{at-refusal, or_else, or_else-zero, first-append, pick-zero}
 use Rattle.block.proofs.RefusalLaws.{tidy-of-none}
-use Rattle.block.specs.declared.Written.{Written}
 use Rattle.block.proofs.AnswerLaws.{written-unique}
 use Rattle.codec.specs.Ten.{pack_of, FourBits, FieldsOfFour}
 use Rattle.codec.specs.Answers.{Packs}
@@ -89,7 +89,7 @@ fields-of-four n x within fit =
       direct = fits_lt n x.direct within (both_right g _ rest);
     }
 
-pub pack-unique : (n : ℕ) (b : Block) (before after after' : List ℕ) (r q : Written)
+pub pack-unique : (n : ℕ) (b : Block) (before after after' : List ℕ) (r q : Result ℕ Refusal)
     → Packs n b before after r → Packs n b before after' q → (r ≡ q) × (after ≡ after')
 pack-unique n b before after after' r q p p' =
     written-unique (pack_refusal n b (length before)) (pack_of b) before after after' r q p p'

@@ -13,19 +13,7 @@ ghost use Rattle.codec.specs.Ten.{lut_at, unpack_of, pack_of, FieldsOfFour};
 ghost use Rattle.codec.specs.Check.{last_refusal, pack_refusal};
 ghost use Rattle.codec.specs.Answers.{checked_of, unpacked_of, Checks, Unpacks, Packs};
 
-use block::{BLOCK_BYTES, FourPin, MOST_INPUTS, OPEN, Parts, Refusal, Written};
-
-#[derive(Clone, Copy)]
-pub enum Checked {
-    Fine,
-    Refused(Refusal),
-}
-
-#[derive(Clone, Copy)]
-pub enum Unpacked {
-    Block(Parts),
-    Refused(Refusal),
-}
+use block::{BLOCK_BYTES, FourPin, MOST_INPUTS, OPEN, Parts, Refusal};
 
 // Sixteen rows from field i on.
 fn rows_at(s: &[u8], i: usize) -> u16
@@ -37,7 +25,8 @@ fn rows_at(s: &[u8], i: usize) -> u16
     bits::join8(high, low)
 }
 
-// Four pins from field p on, with their rows from field q on.
+// Four pins from field p on, with their rows from field q on. A `FourPin` is made where its fields stand: here in
+// nibbles, elsewhere in bytes, in fields lent by C, or in a key; no one maker would be plainer.
 fn four_pin_at(s: &[u8], p: usize, q: usize) -> FourPin
     requires { (p < 16) × (q < 16) }
     ensures { lut_of result ≡ lut_at s.now p q }
@@ -61,6 +50,8 @@ fn parts_at(s: &[u8]) -> Parts
     Parts { f, g, direct, h }
 }
 
+// Tests of a block are joined by `&` and `|`: a sheet asks them of every record, and with `all` and `&&` it took
+// twice as long.
 fn field_fits(n: u8, pin: u8) -> bool
     ensures { result ≡ field_fits n pin }
 {
@@ -76,9 +67,7 @@ fn four_fit(n: u8, t: FourPin) -> bool
 fn fields_fit(n: u8, x: Parts) -> bool
     ensures { result ≡ fields_fit n (block_of x) }
 {
-    let f = x.f;
-    let g = x.g;
-    four_fit(n, f) & (four_fit(n, g) & field_fits(n, x.direct))
+    four_fit(n, x.f) & (four_fit(n, x.g) & field_fits(n, x.direct))
 }
 
 fn follow(pin: u8, next: u8) -> bool
@@ -96,72 +85,67 @@ fn in_order(t: FourPin) -> bool
 fn both_in_order(x: Parts) -> bool
     ensures { result ≡ ordered (lut_of x.f).pins && ordered (lut_of x.g).pins }
 {
-    let f = x.f;
-    let g = x.g;
-    in_order(f) & in_order(g)
+    in_order(x.f) & in_order(x.g)
 }
 
+#[tactic(auto, unfolding(block::specs::Tidy::rows_quiet))]
 fn rows_quiet(x: Parts) -> bool
     ensures { result ≡ rows_quiet (block_of x) }
 {
-    let f = x.f;
-    let g = x.g;
-    block::four_quiet(f) & (block::four_quiet(g) & block::direct_quiet(x.direct, x.h))
+    block::four_quiet(x.f) & (block::four_quiet(x.g) & block::direct_quiet(x.direct, x.h))
 }
 
 // The first of the refusals 6, 7, 8 that applies.
-fn fault(n: u8, x: Parts) -> Checked
+#[tactic(auto, unfolding(block::specs::Refusal::tidy_refusal))]
+fn fault(n: u8, x: Parts) -> Result<(), Refusal>
     ensures { checked_of result ≡ tidy_refusal n (block_of x) }
 {
     if !fields_fit(n, x) {
-        return Checked::Refused(Refusal::R6);
+        return Err(Refusal::StrayField);
     }
     if !both_in_order(x) {
-        return Checked::Refused(Refusal::R7);
+        return Err(Refusal::OutOfOrder);
     }
     if !rows_quiet(x) {
-        return Checked::Refused(Refusal::R8);
+        return Err(Refusal::OpenRowSet);
     }
-    Checked::Fine
+    Ok(())
 }
 
 // The last four bits, after all else was found right.
-fn unpack_last(s: &[u8], x: Parts) -> Unpacked
+#[tactic(auto, unfolding(crate::specs::Check::last_refusal))]
+fn unpack_last(s: &[u8], x: Parts) -> Result<Parts, Refusal>
     ensures { unpacked_of result ≡ answered (last_refusal s.now) zero_block (block_of x) }
 {
     if bits::nibble(s, 19) != 0 {
-        return Unpacked::Refused(Refusal::R9);
+        return Err(Refusal::LastBitsSet);
     }
-    Unpacked::Block(x)
+    Ok(x)
 }
 
 // The nine fields and three tables of ten bytes.
-pub fn unpack(n: u8, s: &[u8]) -> Unpacked
+#[tactic(auto, unfolding(crate::specs::Answers::unpack_answer, crate::specs::Check::check_refusal, crate::specs::Check::last_refusal, block::specs::Refusal::tidy_refusal))]
+pub fn unpack(n: u8, s: &[u8]) -> Result<Parts, Refusal>
     ensures { Unpacks n s.now result }
 {
     if MOST_INPUTS < n {
-        return Unpacked::Refused(Refusal::R1);
+        return Err(Refusal::TooManyInputs);
     }
     if s.len() != BLOCK_BYTES {
-        return Unpacked::Refused(Refusal::R2);
+        return Err(Refusal::WrongLength);
     }
     let x = parts_at(s);
-    let found = fault(n, x);
-    match found {
-        Checked::Refused(k) => Unpacked::Refused(k),
-        Checked::Fine => unpack_last(s, x),
-    }
+    fault(n, x)?;
+    unpack_last(s, x)
 }
 
 // Whether ten bytes are a tidy block.
-pub fn check(n: u8, s: &[u8]) -> Checked
+#[tactic(auto, unfolding(crate::specs::Answers::unpack_answer))]
+pub fn check(n: u8, s: &[u8]) -> Result<(), Refusal>
     ensures { Checks n s.now result }
 {
-    let unpacked = unpack(n, s);
-    match unpacked {
-        Unpacked::Refused(k) => Checked::Refused(k),
-        Unpacked::Block(_) => Checked::Fine,
-    }
+    unpack(n, s)?;
+    Ok(())
 }
 
 // The field of four bits that stands k bits above the units bit.
@@ -183,57 +167,44 @@ fn ten(x: Parts) -> [u8; 10]
     requires { FieldsOfFour x }
     ensures { result ≡ pack_of (block_of x) }
 {
-    let f = x.f;
-    let g = x.g;
     let h = x.h as u16;
-    let x4 = bits::join4(x.direct, field(f.rows, 12));
-    let x6 = bits::join4(field(f.rows, 0), field(g.rows, 12));
-    let x8 = bits::join4(field(g.rows, 0), field(h, 4));
+    let x4 = bits::join4(x.direct, field(x.f.rows, 12));
+    let x6 = bits::join4(field(x.f.rows, 0), field(x.g.rows, 12));
+    let x8 = bits::join4(field(x.g.rows, 0), field(h, 4));
     [
-        bits::join4(f.a, f.b),
-        bits::join4(f.c, f.d),
-        bits::join4(g.a, g.b),
-        bits::join4(g.c, g.d),
+        bits::join4(x.f.a, x.f.b),
+        bits::join4(x.f.c, x.f.d),
+        bits::join4(x.g.a, x.g.b),
+        bits::join4(x.g.c, x.g.d),
         x4,
-        middle(f.rows),
+        middle(x.f.rows),
         x6,
-        middle(g.rows),
+        middle(x.g.rows),
         x8,
         bits::join4(field(h, 0), 0),
     ]
 }
 
 // The refusal that nine fields and three tables get, with so much room.
-fn packable(n: u8, x: Parts, room: usize) -> Checked
+#[tactic(auto, unfolding(crate::specs::Check::pack_refusal, block::specs::Refusal::tidy_refusal))]
+fn packable(n: u8, x: Parts, room: usize) -> Result<(), Refusal>
     ensures { checked_of result ≡ pack_refusal n (block_of x) room }
 {
     if MOST_INPUTS < n {
-        return Checked::Refused(Refusal::R1);
+        return Err(Refusal::TooManyInputs);
     }
-    let found = fault(n, x);
-    match found {
-        Checked::Refused(k) => Checked::Refused(k),
-        Checked::Fine => {
-            if room < BLOCK_BYTES {
-                Checked::Refused(Refusal::R5)
-            } else {
-                Checked::Fine
-            }
-        }
+    fault(n, x)?;
+    if room < BLOCK_BYTES {
+        return Err(Refusal::NoRoom);
     }
+    Ok(())
 }
 
 // Ten bytes at the start of the lent buffer.
-pub fn pack(n: u8, x: Parts, out: &mut [u8]) -> Written
+pub fn pack(n: u8, x: Parts, out: &mut [u8]) -> Result<usize, Refusal>
     ensures { Packs n (block_of x) out.old out.new result }
 {
-    let found = packable(n, x, out.len());
-    match found {
-        Checked::Refused(k) => Written::Refused(k),
-        Checked::Fine => {
-            let made = ten(x);
-            out[..BLOCK_BYTES].copy_from_slice(&made);
-            Written::Length(BLOCK_BYTES)
-        }
-    }
+    packable(n, x, out.len())?;
+    out[..BLOCK_BYTES].copy_from_slice(&ten(x));
+    Ok(BLOCK_BYTES)
 }

@@ -1,4 +1,6 @@
 -- The line of a record that a sheet may hold. Assumes nothing.
+use Rattle.std.specs.Prelude.{Result}
+use Rattle.block.specs.declared.Refusal.{Refusal}
 use mathlib.Core.Path.{◌≡◌, ap, ◌∙◌}
 use mathlib.Core.List.{List, ◌++◌}
 use Prim.Native.Nat.{ℕ, ◌-◌, ◌<◌, ◌≤◌}
@@ -11,7 +13,6 @@ use lib.Seq.{take_all}
 use borrow.Author.Tests.{ltb-false, le-ltb}
 use Rattle.bits.proofs.TestLaws.{either-false}
 use Rattle.bits.proofs.SliceLaws.{filled_on}
-use Rattle.block.specs.declared.Written.{Written}
 use Rattle.codec.specs.Check.{check_refusal}
 use Rattle.codec.proofs.CheckLaws.{accepted-of-none}
 use Rattle.record.specs.declared.Numbers.{Numbers}
@@ -56,7 +57,7 @@ module _ (place : ℕ) (r : Record) (within : place < most_records) (sound : Sou
       length-append (number_cells place (numbers_in r)) (block_line r.ten) ∙ omega arith
 
 -- the line of a block that passes, written where there is room
-pub block-put : (n : ℕ) (ten before after : List ℕ) (w : Written) → check_refusal n ten ≡ 0
+pub block-put : (n : ℕ) (ten before after : List ℕ) (w : Result ℕ Refusal) → check_refusal n ten ≡ 0
     → block_line_bytes ≤ length before → LinesBlock n ten before after w
     → after ≡ block_line ten ++ drop block_line_bytes before
 block-put n ten before after w none room written =
@@ -72,7 +73,7 @@ unfolding record_of
 ten-part s long = take_all 10 (drop header_bytes s) (omega (arith, length-drop header_bytes s))
 
 -- the numbers of a record's 14 bytes at the start of a buffer, and its block's line after them
-pub line-put : (place : ℕ) (s before out after : List ℕ) (x : Numbers) (w : Written)
+pub line-put : (place : ℕ) (s before out after : List ℕ) (x : Numbers) (w : Result ℕ Refusal)
     → length s ≡ record_bytes → Sound (record_of s) → place < most_records → record_line_bytes ≤ length before
     → Numbered s x → out ≡ number_cells place x ++ drop number_bytes before
     → LinesBlock x.n (take (record_bytes - header_bytes) (drop header_bytes s))

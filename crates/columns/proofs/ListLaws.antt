@@ -1,5 +1,8 @@
 -- The lines of a sheet's records, one after the other. Assumes nothing.
-use mathlib.Core.Path.{◌≡◌, refl, sym, ◌∙◌}
+use Rattle.std.specs.Prelude.{Err, Ok, Result}
+use Rattle.record.specs.declared.Refused.{Refused}
+use Rattle.record.specs.Told.{refused}
+use mathlib.Core.Path.{◌≡◌, refl, sym, ap, ◌∙◌}
 use mathlib.Core.List.{List, [], ◌∷◌, ◌++◌, append-nil, append_assoc}
 use Prim.Native.Nat.{ℕ, zero, suc, ◌+◌, ◌-◌, ◌*◌, ◌<◌, ◌≤◌}
 use native.Mathlib.Nat.{add-zero, zero-add, not-suc-le-zero, le_of_suc-le-suc}
@@ -8,12 +11,10 @@ use native.Mathlib.Omega.{arith}
 use borrow.Rule.Slice.PartMut.{put_mid}
 use lib.Dec.{leb}
 use lib.ListN.{length, get_or, take, drop, length-append, length-drop}
-use lib.Seq.{take-suc, take-length, length-take-le}
+use lib.Seq.{take-suc, take-length, take_at, drop_at, drop-drop, length-take-le}
 use borrow.Author.Tests.{leb-false, le-ltb}
 use Rattle.bits.proofs.SliceLaws.{filled_on}
-use Rattle.block.specs.declared.Refusal.TheVariants.{R5}
-use Rattle.record.specs.declared.Told.{Told}
-use Rattle.record.specs.declared.Told.TheVariants.{Value, Refused}
+use Rattle.block.specs.declared.Refusal.TheVariants.{NoRoom}
 use Rattle.record.specs.Told.{told_of}
 use Rattle.record.specs.Record.{Record, record_bytes, record_of, key_of, zero_record}
 use Rattle.record.specs.Fault.{record_refusal, at}
@@ -22,8 +23,7 @@ use Rattle.records.specs.Sheet.{most_records, records_of, bytes_at}
 use Rattle.records.specs.Check.{first_fault, sheet_fault}
 use Rattle.records.proofs.SheetLaws.{records-length, records-at}
 use Rattle.records.proofs.BoundLaws.{accepted-records, records-few}
-use Rattle.finding.specs.Read.{record_at, read_fault}
-use Rattle.finding.proofs.ReadLaws.{Readable}
+use Rattle.finding.specs.Read.{record_at, read_fault, Standing}
 use Rattle.columns.specs.Columns.{record_line, record_line_bytes, lines_from, Sound, PrintsRecord}
 use Rattle.columns.specs.Columns.{text_fault, PrintsSheet}
 use Rattle.columns.proofs.PrintLaws.{prints-5, prints-text}
@@ -53,42 +53,38 @@ record-part s none p l =
       rw (records-at s p zero_record (omega arith)) at (each-sound s none p l),
     )
 
--- a record that is read
-pub record Standing (s : List ℕ) (place : ℕ) : Type 0 where
-  pub none : (sheet_fault s).number ≡ 0
-  pub within : place < length (records_of s)
-  pub few : place < most_records
+-- the bytes at a place, and their line where there is too little room and where it is written
+module _ (s : List ℕ) (place : ℕ) (part : List ℕ) (stands : Standing s place part) where
+  read-parts : ((sheet_fault s).number ≡ 0) × (place < length (records_of s))
+  unfolding read_fault
+  read-parts =
+      let count = length (records_of s) in
+      let parts = then-test (sheet_fault s) 11 (leb count place) stands.none in
+      (parts.0, leb-false count place parts.1)
 
-pub standing-of : (s : List ℕ) (place : ℕ) → Readable s place → Standing s place
-unfolding read_fault
-standing-of s place readable =
-    let count = length (records_of s) in
-    let parts = then-test (sheet_fault s) 11 (leb count place) readable.none in
-    let within = leb-false count place parts.1 in
-    let most = records-few s parts.0 in
-    record { none = parts.0; within = within; few = omega arith }
+  pub place-few : place < most_records
+  place-few = omega (arith, read-parts.1, records-few s read-parts.0)
 
--- its bytes, and its line where there is too little room and where it is written
-module _ (s : List ℕ) (place : ℕ) (readable : Readable s place) where
-  pub place-part : (length (bytes_at s place) ≡ record_bytes) × Sound (record_of (bytes_at s place))
-  place-part = let stands = standing-of s place readable in record-part s stands.none place stands.within
+  same-record : record_at s place ≡ record_of part
+  same-record =
+      rw stands.bytes (records-at s place zero_record (rw (records-length s) at read-parts.1))
+
+  pub place-part : (length part ≡ record_bytes) × Sound (record_of part)
+  place-part = (stands.whole, rw same-record at (each-sound s read-parts.0 place read-parts.1))
 
   size : length (record_line place (record_at s place)) ≡ record_line_bytes
-  size =
-      let stands = standing-of s place readable in
-      line-length place (record_at s place) stands.few (each-sound s stands.none place stands.within)
+  size = line-length place (record_at s place) place-few (each-sound s read-parts.0 place read-parts.1)
 
   pub place-5 : (before : List ℕ) → length before < record_line_bytes
-      → PrintsRecord s place before before (Refused R5 0)
-  place-5 before short = prints-5 (read_fault s place) _ before readable.none (omega (arith, size))
+      → PrintsRecord s place before before (Err (refused NoRoom 0))
+  place-5 before short = prints-5 (read_fault s place) _ before stands.none (omega (arith, size))
 
   pub place-put : (before after : List ℕ) → record_line_bytes ≤ length before
-      → after ≡ record_line place (record_of (bytes_at s place)) ++ drop record_line_bytes before
-      → PrintsRecord s place before after (Value record_line_bytes)
+      → after ≡ record_line place (record_of part) ++ drop record_line_bytes before
+      → PrintsRecord s place before after (Ok record_line_bytes)
   place-put before after room e =
-      let same = records-at s place zero_record readable.within in
-      prints-text (read_fault s place) _ before readable.none after record_line_bytes (omega (arith, size)) (sym size)
-      (e ∙ rw (same, rw same at size))
+      prints-text (read_fault s place) _ before stands.none after record_line_bytes (omega (arith, size)) (sym size)
+      (e ∙ rw (same-record, rw same-record at size))
 
 -- one line more
 lines_snoc : (place : ℕ) (rs : List Record) (r : Record)
@@ -153,14 +149,25 @@ put_next s before out p none l put made e =
           ∙ rw (add-one p, lines_more rs p l, on));
     }
 
--- the buffer keeps its length
-pub put-length : (s before out : List ℕ) (p : ℕ) → (sheet_fault s).number ≡ 0 → PutTo s before out p
-    → p * record_line_bytes ≤ length before → length out ≡ length before
-put-length s before out p none put room =
-    let a = p * record_line_bytes in
-    let front = lines_from 0 (take p (records_of s)) in
-    rw put.lines
-    (length-append front (drop a before) ∙ omega (arith, first-length s none p put.low, length-drop a before))
+-- the next record, where what is left of the sheet begins with its bytes
+pub record Next (s : List ℕ) (p : ℕ) (part after : List ℕ) : Type 0 where
+  pub within : p < length (records_of s)
+  pub bytes : part ≡ bytes_at s p
+  pub rest : after ≡ drop ((p + 1) * record_bytes) s
+
+pub next-of : (s rest part after : List ℕ) (p : ℕ) → rest ≡ drop (p * record_bytes) s → rest ≡ part ++ after
+    → length part ≡ record_bytes → Next s p part after
+next-of s rest part after p is cut long =
+    let all : length part + length after ≡ length s - p * record_bytes =
+    sym (length-append part after) ∙ ap length (sym cut ∙ is) ∙ length-drop (p * record_bytes) s in
+    let on : p * record_bytes + record_bytes ≡ (p + 1) * record_bytes = omega arith in
+    record {
+      within = rw (records-length s) (omega (arith, all, long));
+      bytes = sym (take_at part after record_bytes long) ∙ ap (take record_bytes) (sym cut ∙ is);
+      rest =
+          sym (drop_at part after record_bytes long) ∙ ap (drop record_bytes) (sym cut ∙ is)
+          ∙ drop-drop record_bytes (p * record_bytes) s ∙ ap (λ (k : ℕ). drop k s) on;
+    }
 
 pub put_all : (s before out : List ℕ) (p : ℕ) → length (records_of s) ≤ p → PutTo s before out p
     → out ≡ lines_from 0 (records_of s) ++ drop (length (records_of s) * record_line_bytes) before
@@ -172,18 +179,18 @@ put_all s before out p over put =
 -- the list of a sheet without a fault: too little room, and written
 module _ (s : List ℕ) (none : (sheet_fault s).number ≡ 0) where
   pub list-5 : (before : List ℕ) → length before < length (records_of s) * record_line_bytes
-      → PrintsSheet s before before (Refused R5 0)
+      → PrintsSheet s before before (Err (refused NoRoom 0))
   list-5 before short = prints-5 (sheet_fault s) _ before none (omega (arith, list_length s none))
 
   pub list_put : (before after : List ℕ) → length (records_of s) * record_line_bytes ≤ length before
       → after ≡ lines_from 0 (records_of s) ++ drop (length (records_of s) * record_line_bytes) before
-      → PrintsSheet s before after (Value (length (records_of s) * record_line_bytes))
+      → PrintsSheet s before after (Ok (length (records_of s) * record_line_bytes))
   list_put before after room e =
       let size = list_length s none in
       prints-text (sheet_fault s) _ before none after _ (omega (arith, size)) (sym size) (e ∙ rw size)
 
 -- with room for the most records the sheet alone decides
-pub list-fits : (s before after : List ℕ) (r : Told) → most_records * record_line_bytes ≤ length before
+pub list-fits : (s before after : List ℕ) (r : Result ℕ Refused) → most_records * record_line_bytes ≤ length before
     → PrintsSheet s before after r → (told_of r).number ≡ (sheet_fault s).number
 unfolding text_fault
 list-fits s before after r room p =

@@ -1,12 +1,12 @@
 -- A record as a line, and a sheet as its list: place, spacecraft number, block number, n, type, ten
 -- bytes, in columns that line up. Assumes nothing.
-use Rattle.std.specs.Prelude.{ℕ, suc, ◌+◌, ◌<◌, ◌≤◌, ◌≡◌, List, [], ◌∷◌, ◌++◌, ltb, length}
+use Rattle.std.specs.Prelude.{ℕ, suc, ◌+◌, ◌<◌, ◌≤◌, ◌≡◌, List, [], ◌∷◌, ◌++◌, ltb, length, Result}
+use Rattle.record.specs.declared.Refused.{Refused}
 use Rattle.block.specs.Table.{most_inputs}
 use Rattle.block.specs.Refusal.{◌when◌}
 use Rattle.block.specs.Answer.{buffer_after}
 use Rattle.codec.specs.Check.{check_refusal}
 use Rattle.record.specs.declared.Numbers.{Numbers}
-use Rattle.record.specs.declared.Told.{Told}
 use Rattle.record.specs.Record.{Record, most_craft, most_block, numbers_in}
 use Rattle.record.specs.Fault.{Fault, whole, ◌then◌}
 use Rattle.record.specs.Told.{told, told_of}
@@ -75,15 +75,15 @@ text_fault f text room = f then whole (5 when ltb room (length text) ∷ [])
 
 -- what the writer of such a text promises: the length in use, and the text at the start of the lent
 -- buffer
-pub record Prints (f : Fault) (text before after : List ℕ) (r : Told) : Type 0 where
+pub record Prints (f : Fault) (text before after : List ℕ) (r : Result ℕ Refused) : Type 0 where
   pub answer : told_of r ≡ told (text_fault f text (length before)) 0 (length text)
   pub kept : after ≡ buffer_after (text_fault f text (length before)).number text before
 
 -- the line of the record at a place, refused as reading is
-abbrev pub PrintsRecord : (s : List ℕ) (place : ℕ) (before after : List ℕ) (r : Told) → Type 0
+abbrev pub PrintsRecord : (s : List ℕ) (place : ℕ) (before after : List ℕ) (r : Result ℕ Refused) → Type 0
 PrintsRecord s place before after r =
     Prints (read_fault s place) (record_line place (record_at s place)) before after r
 
 -- the list of a sheet, a line for each record in their order, refused as the sheet is
-abbrev pub PrintsSheet : (s before after : List ℕ) (r : Told) → Type 0
+abbrev pub PrintsSheet : (s before after : List ℕ) (r : Result ℕ Refused) → Type 0
 PrintsSheet s before after r = Prints (sheet_fault s) (lines_from 0 (records_of s)) before after r

@@ -11,7 +11,7 @@ ghost use Rattle.columns.specs.Columns.{cell, number_cells, number_bytes, record
 ghost use Rattle.columns.specs.Columns.{record_line_bytes, lines_from, PrintsRecord, PrintsSheet};
 
 use block::Refusal;
-use record::{HEADER_BYTES, Numbers, RECORD_BYTES, Told};
+use record::{HEADER_BYTES, Numbers, RECORD_BYTES, Refused};
 use text::BLOCK_LINE;
 
 // The widths of place, spacecraft number, block number and n, a blank after each.
@@ -63,48 +63,42 @@ fn put_line(place: usize, s: &[u8], out: &mut [u8])
 {
     let x = record::numbers_of(s);
     put_numbers(place, x, out);
-    text::of_block(x.n, &s[HEADER_BYTES..RECORD_BYTES], &mut out[TYPE_AT..]);
+    // The block passes and has room, so no refusal is dropped.
+    let _ = text::of_block(x.n, &s[HEADER_BYTES..RECORD_BYTES], &mut out[TYPE_AT..]);
 }
 
 // The line of the record at a place.
-pub fn of_place(s: &[u8], place: usize, out: &mut [u8]) -> Told
+pub fn of_place(s: &[u8], place: usize, out: &mut [u8]) -> Result<usize, Refused>
     ensures { PrintsRecord s.now place out.old out.new result }
 {
-    let found = finding::readable(s, place);
-    let Told::Value(_) = found else {
-        return found;
-    };
+    let bytes = finding::bytes_at(s, place)?;
     if out.len() < RECORD_LINE {
-        return Told::Refused(Refusal::R5, 0);
+        return Err(Refusal::NoRoom.into());
     }
-    let a = place * RECORD_BYTES;
-    put_line(place, &s[a..a + RECORD_BYTES], out);
-    Told::Value(RECORD_LINE)
+    put_line(place, bytes, out);
+    Ok(RECORD_LINE)
 }
 
-// The lines of so many records, where no record has a fault and there is room for all.
-fn put_lines(s: &[u8], count: usize, out: &mut [u8])
-    requires s_value { ((sheet_fault s.now).number ≡ 0) × (count ≡ length (records_of s.now)) }
-    requires record_line_bytes_in_bounds { count * record_line_bytes ≤ length out.old }
-    ensures { out.new ≡ lines_from 0 (records_of s.now) ++ drop (count * record_line_bytes) out.old }
+// The lines of a sheet's records, where no record has a fault and there is room for all.
+fn put_lines(s: &[u8], out: &mut [u8])
+    requires none { (sheet_fault s.now).number ≡ 0 }
+    requires room { length (records_of s.now) * record_line_bytes ≤ length out.old }
+    ensures { out.new ≡ lines_from 0 (records_of s.now) ++ drop (length (records_of s.now) * record_line_bytes) out.old }
 {
-    for p in 0..count {
-        let a = p * RECORD_BYTES;
-        put_line(p, &s[a..a + RECORD_BYTES], &mut out[p * RECORD_LINE..]);
+    // The buffer is cut by place: it may be longer than the lines, and keeps what is behind them.
+    for (place, bytes) in s.chunks_exact(RECORD_BYTES).enumerate() {
+        put_line(place, bytes, &mut out[place * RECORD_LINE..]);
     }
 }
 
 // The list of a sheet: the line of each record.
-pub fn of_sheet(s: &[u8], out: &mut [u8]) -> Told
+pub fn of_sheet(s: &[u8], out: &mut [u8]) -> Result<usize, Refused>
     ensures { PrintsSheet s.now out.old out.new result }
 {
-    let checked = records::check(s);
-    let Told::Value(count) = checked else {
-        return checked;
-    };
+    let count = records::check(s)?;
     if out.len() < count * RECORD_LINE {
-        return Told::Refused(Refusal::R5, 0);
+        return Err(Refusal::NoRoom.into());
     }
-    put_lines(s, count, out);
-    Told::Value(count * RECORD_LINE)
+    put_lines(s, out);
+    Ok(count * RECORD_LINE)
 }

@@ -1,20 +1,22 @@
 -- Tidy choices of pins: what the tests of a set and of a wiring say of the pins, and that every tidy
 -- choice of pins is that of a set. Assumes nothing.
+use Rattle.std.specs.Prelude.{count_ones}
 use mathlib.Core.Path.{◌≡◌, refl, sym, ◌∙◌}
 use mathlib.Core.Bool.{Bool, true, false, ◌&&◌}
 use mathlib.Core.List.{List}
-use Prim.Native.Nat.{ℕ, ◌*◌, ◌%◌, ◌^◌, ◌<◌, ◌≤◌}
+use Prim.Native.Nat.{ℕ, ◌^◌, ◌<◌, ◌≤◌}
 use native.Mathlib.Omega.{arith}
-use lib.Dec.{ltb, leb}
+use lib.Count.{ones}
+use lib.Dec.{eqb, ltb, leb}
 use lib.ListN.{length, get_or}
 use lib.Pow.{pow_mono}
-use borrow.Author.Tests.{ltb-true, lt-ltb, leb-true, le-leb, lt-leb}
+use borrow.Author.Tests.{eqb-true, ltb-true, lt-ltb, leb-true, le-leb, lt-leb}
 use Rattle.bits.specs.Bits.{has}
 use Rattle.bits.specs.Tests.{below, every}
 use Rattle.bits.proofs.TestLaws.{both_left, both_right, below_at}
 use Rattle.bits.proofs.SearchLaws.{byBool}
 use Rattle.bits.proofs.ListLaws.{every-implied}
-use Rattle.bits.proofs.SetLaws.{one_shifted, low-set}
+use Rattle.bits.proofs.SetLaws.{low-set}
 use Rattle.block.specs.Tidy.{field_fits, ordered}
 use Rattle.block.specs.Kind.{carries}
 use Rattle.block.proofs.TidyLaws.{fits_lt, fits_wider}
@@ -25,10 +27,23 @@ use Rattle.wiring.specs.Wire.{Wired}
 use Rattle.wiring.proofs.ReadLaws.{carried-below}
 use Rattle.contents.specs.Contents.{is_choice, is_wiring, wiring_of}
 
-pub choice-by : (n set count : ℕ) → n ≤ 9 → count ≡ length (variables_in set)
-    → ltb set ((1 * 2 ^ n) % 65536) && leb count 4 ≡ is_choice n set
+-- how many variables a set of nine has
+abbrev same_size : ℕ → Bool
+same_size set = eqb (count_ones set) (length (variables_in set))
+
+size_all : below same_size 512 ≡ true
+unfolding variables_from variables_in has ones
+size_all = refl
+
+pub choice-by : (n set : ℕ) → n ≤ 9 → ltb set (2 ^ n) && leb (count_ones set) 4 ≡ is_choice n set
 unfolding is_choice
-choice-by n set count l is = rw (one_shifted n 16 (omega arith), is)
+choice-by n set within =
+    byBool (ltb set (2 ^ n))
+    (λ e.
+    let l = ltb-true set (2 ^ n) e in
+    let nine : set < 512 = omega (arith, l, pow_mono {i = n} {j = 9} within) in
+    rw (eqb-true (count_ones set) (length (variables_in set)) (below_at same_size 512 size_all set nine)))
+    (λ e. rw e)
 
 pub wiring-not : (n f g direct : ℕ) → 9 < n → false ≡ is_wiring n f g direct
 unfolding is_wiring

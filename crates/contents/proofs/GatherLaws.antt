@@ -2,13 +2,14 @@
 -- component asks of table H. Assumes nothing.
 use mathlib.Core.Path.{◌≡◌, refl, sym, ap, ap₂, ◌∙◌}
 use mathlib.Core.Bool.{Bool, true, false, not, ◌&&◌, ◌||◌, and-false, and-true, beq, or_comm}
-use mathlib.Core.List.{List}
+use mathlib.Core.List.{List, map}
 use Prim.Native.Nat.{ℕ, ◌+◌, ◌-◌, ◌*◌, ◌/◌, ◌%◌, ◌^◌, ◌<◌}
 use native.Mathlib.Omega.{arith}
 use lib.Bits.{bit_and, bit_or}
 use lib.Dec.{eqb}
-use lib.ListN.{length, get_or, set, replicate, get_or-replicate}
-use lib.Seq.{get_or-set_same, get_or-set_other}
+use Rattle.std.proofs.lemmas.List.{map-set, length-map}
+use lib.ListN.{length, get_or, set, replicate, get_or-replicate, get_or-map}
+use lib.Seq.{get_or-set_same, get_or-set_other, map-set_same}
 use borrow.Author.Tests.{eq-eqb, eqb-true, eqb-false}
 use Rattle.bits.specs.Bits.{has}
 use Rattle.bits.specs.Tests.{some, below, ◌⊕◌}
@@ -19,7 +20,8 @@ use Rattle.bits.proofs.BitLaws.{has-of-0, has-or, has-set}
 use Rattle.bits.proofs.SetLaws.{one_shifted}
 use Rattle.wiring.specs.Wire.{truth}
 use Rattle.contents.specs.declared.Wires.{Wires}
-use Rattle.contents.specs.Code.{selected_by, changes_by, component_by, slot_by, asked_by, Marks}
+use Rattle.contents.specs.Code.{selected_by, changes_by, component_by, slot_by, asked_by, Marks, AreAsked, nothing, asked_ones, asked_zeros}
+use Rattle.contents.specs.declared.Asked.{Asked}
 
 differ : (a b : Bool) → beq a b ≡ false → a ⊕ b ≡ true
 differ a b e = sym (xor-beq a b) ∙ ap not e
@@ -122,3 +124,43 @@ module _ (t : List ℕ) (w : Wires) (v : Bool) where
         pub marks-add : Marks t w v (m + 1) added
         marks-add s e s-fits l =
             byBool (eqb c s) (λ q. rw (← eqb-true c s q) (at_c e l)) (λ q. elsewhere s e q s-fits l)
+
+-- a row is marked in what its component asks
+module _ (t : List ℕ) (w : Wires) where
+  pub asked-none : AreAsked t w 0 (replicate 16 nothing)
+  asked-none = record { ones = marks-none t w true; zeros = marks-none t w false }
+
+  module _ (m : ℕ) (a : List Asked) (all : length a ≡ 16) (before : AreAsked t w m a) (c k : ℕ)
+      (is_c : c ≡ component_by w m) (c-fits : c < 16) (is-k : k ≡ slot_by w m) (k-fits : k < 8) where
+    abbrev old : Asked
+    old = get_or a c nothing
+
+    pub asked-one : truth t m ≡ true
+        → AreAsked t w (m + 1) (set a c (record { ones = bit_or old.ones (128 / 2 ^ k); zeros = old.zeros }))
+    asked-one value =
+        let x : Asked = record { ones = bit_or old.ones (128 / 2 ^ k); zeros = old.zeros } in
+        let same : map (λ (y : Asked). y.zeros) (set a c x) ≡ asked_zeros a =
+        map-set_same (λ (y : Asked). y.zeros) a c x nothing refl in
+        let here = get_or-map (λ (y : Asked). y.ones) a c nothing in
+        record {
+          ones =
+              rw (map-set (λ (y : Asked). y.ones) a c x, ← here)
+              (marks-add t w true m (asked_ones a) before.ones value (rw length-map all)
+              c k is_c c-fits is-k k-fits);
+          zeros = rw same (marks-skip t w false m (asked_zeros a) before.zeros (rw value));
+        }
+
+    pub asked-zero : truth t m ≡ false
+        → AreAsked t w (m + 1) (set a c (record { ones = old.ones; zeros = bit_or old.zeros (128 / 2 ^ k) }))
+    asked-zero value =
+        let x : Asked = record { ones = old.ones; zeros = bit_or old.zeros (128 / 2 ^ k) } in
+        let same : map (λ (y : Asked). y.ones) (set a c x) ≡ asked_ones a =
+        map-set_same (λ (y : Asked). y.ones) a c x nothing refl in
+        let here = get_or-map (λ (y : Asked). y.zeros) a c nothing in
+        record {
+          ones = rw same (marks-skip t w true m (asked_ones a) before.ones (rw value));
+          zeros =
+              rw (map-set (λ (y : Asked). y.zeros) a c x, ← here)
+              (marks-add t w false m (asked_zeros a) before.zeros value
+              (rw length-map all) c k is_c c-fits is-k k-fits);
+        }

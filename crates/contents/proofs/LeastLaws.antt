@@ -1,5 +1,6 @@
 -- The least of the contents over all tables H is the least that compute t on the wiring, and what
 -- `least` promises leaves one answer. Assumes nothing.
+use Rattle.std.specs.Prelude.{Option, None, Some}
 use mathlib.Core.Path.{◌≡◌, refl, sym, ap, ◌∙◌}
 use mathlib.Core.Bool.{true, false, ◌&&◌}
 use mathlib.Core.List.{List, [], ◌∷◌}
@@ -20,7 +21,8 @@ use Rattle.wiring.proofs.TestLaws.{holds-of-block, block-of-holds, rows-least, s
 use Rattle.wiring.proofs.TestLaws.{rows_f-quiet, rows_g-quiet, rows_f-lt, rows_g-lt}
 use Rattle.contents.specs.declared.Wires.{Wires}
 use Rattle.contents.specs.declared.Asked.{Asked}
-use Rattle.contents.specs.Contents.{is_wiring, wiring_of, block_with, no_contents, Fills, LeastFilling, Weighs}
+use Rattle.contents.specs.Contents.{is_wiring, wiring_of, block_with, no_contents}
+use Rattle.contents.specs.Contents.{Fills, LeastFilling, IsLeast, Weighs}
 use Rattle.contents.specs.Code.{AreWires, AreAsked, component_by, possible_by, with_table, least_of}
 use Rattle.contents.proofs.ChoiceLaws.{wired}
 use Rattle.contents.proofs.MinimumLaws.{least_of-most, least_of-le, least_of-is}
@@ -83,7 +85,7 @@ module _ (n : ℕ) (t : List ℕ) (f g direct : ℕ) (tidy : is_wiring n f g dir
         computes = rw same (block-of-holds n t w pins h held);
       }
 
-  module _ (x : Wires) (are : AreWires n t w x) (a : Asked) (ask : AreAsked t x (2 ^ n) a) where
+  module _ (x : Wires) (are : AreWires n t w x) (a : List Asked) (ask : AreAsked t x (2 ^ n) a) where
     -- contents that fill, and their table H
     module _ (y : ℕ) (fills : Fills n t f g direct y) where
       abbrev h : ℕ
@@ -150,12 +152,16 @@ module _ (n : ℕ) (t : List ℕ) (f g direct : ℕ) (tidy : is_wiring n f g dir
         clash possible (none_out (possible_by x a) 256 none k first.1))
 
 module _ (n : ℕ) (t : List ℕ) (f g direct : ℕ) where
-  pub weighs-refused : is_wiring n f g direct ≡ false → Weighs n t f g direct no_contents
+  pub weighs-refused : is_wiring n f g direct ≡ false → Weighs n t f g direct None
   weighs-refused wrong = record { refused = λ e. refl; weighed = λ e. clash e wrong }
 
-  pub weighs-tidy : (x : ℕ) → is_wiring n f g direct ≡ true → LeastFilling n t f g direct x
-      → Weighs n t f g direct x
-  weighs-tidy x tidy least = record { refused = λ e. clash tidy e; weighed = λ e. least }
+  -- no contents at all, as an answer
+  pub is-least-none : LeastFilling n t f g direct no_contents → IsLeast n t f g direct None
+  is-least-none least = record { least = least; small = λ x e. absurd (cc) }
+
+  pub weighs-tidy : (r : Option ℕ) → is_wiring n f g direct ≡ true → IsLeast n t f g direct r
+      → Weighs n t f g direct r
+  weighs-tidy r tidy least = record { refused = λ e. clash tidy e; weighed = λ e. least }
 
   no_more : (x y : ℕ) → LeastFilling n t f g direct x → LeastFilling n t f g direct y → x ≤ y
   no_more x y p q =
@@ -163,9 +169,23 @@ module _ (n : ℕ) (t : List ℕ) (f g direct : ℕ) where
       (λ e. let above = ltb-false y no_contents e in omega (arith, p.most))
 
   -- the promise leaves one answer
-  pub least-unique : (x y : ℕ) → Weighs n t f g direct x → Weighs n t f g direct y → x ≡ y
-  least-unique x y p q =
+  pub least-unique : (r q : Option ℕ) → Weighs n t f g direct r → Weighs n t f g direct q → r ≡ q
+  least-unique r q told other =
       byBool (is_wiring n f g direct)
-      (λ e.
-      le_antisymm (no_more x y (p.weighed e) (q.weighed e)) (no_more y x (q.weighed e) (p.weighed e)))
-      (λ e. p.refused e ∙ sym (q.refused e))
+      (λ e. same-answer r q (told.weighed e) (other.weighed e))
+      (λ e. told.refused e ∙ sym (other.refused e))
+    where
+      same-answer : (r q : Option ℕ) → IsLeast n t f g direct r → IsLeast n t f g direct q → r ≡ q
+      same-answer None None p s = refl
+      same-answer None (Some y) p s =
+          let small = s.small y refl in
+          let more = no_more no_contents y p.least s.least in
+          absurd (omega arith)
+      same-answer (Some x) None p s =
+          let small = p.small x refl in
+          let more = no_more no_contents x s.least p.least in
+          absurd (omega arith)
+      same-answer (Some x) (Some y) p s =
+          let same : x ≡ y =
+          le_antisymm (no_more x y p.least s.least) (no_more y x s.least p.least) in
+          rw same

@@ -1,6 +1,5 @@
 -- The laws of contents. Assumes nothing.
 pub mod TurnLaws
-pub mod SizeLaws
 pub mod ChoiceLaws
 pub mod FillLaws
 pub mod MinimumLaws

@@ -27,7 +27,7 @@ use Rattle.contents.specs.declared.Side.{Side}
 use Rattle.contents.specs.declared.Wires.{Wires}
 use Rattle.contents.specs.declared.Asked.{Asked}
 use Rattle.contents.specs.Contents.{no_contents}
-use Rattle.contents.specs.Code.{IsSide, AreWires, component_by, changed_by, slot_by, asked_by}
+use Rattle.contents.specs.Code.{asked_ones, asked_zeros, IsSide, AreWires, component_by, changed_by, slot_by, asked_by}
 use Rattle.contents.specs.Code.{AreAsked, allowed_by, serves_by, choice_by, choice_at, holds_by}
 use Rattle.contents.specs.Code.{shown_by, filled_by, with_table}
 
@@ -70,9 +70,9 @@ module _ (n : ℕ) (t : List ℕ) (w : Wiring) (wired : Wired n w) (x : Wires) (
       (λ r l.
       ap₂ (λ (c k : ℕ). eqb c s && (eqb k e && not (truth t r ⊕ v))) (component-as r l) (slot-as r))
 
-  module _ (a : Asked) (ask : AreAsked t x (2 ^ n) a) (h : ℕ) where
+  module _ (a : List Asked) (ask : AreAsked t x (2 ^ n) a) (h : ℕ) where
     pub serves-as : (s : ℕ) → s < 16 → (k : ℕ)
-        → serves_by x h (get_or a.one s 0) (get_or a.zero s 0) k ≡ serves n t w h s k
+        → serves_by x h (get_or (asked_ones a) s 0) (get_or (asked_zeros a) s 0) k ≡ serves n t w h s k
     unfolding serves_by serves allowed_by allowed
     serves-as s l k =
         rw (are.in_f.bridge, are.in_g.bridge)

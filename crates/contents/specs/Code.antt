@@ -1,6 +1,6 @@
 -- The test of one wiring over the numbers that the code holds, each definition beside the one of
 -- wiring/specs/Test that it computes. Assumes nothing.
-use Rattle.std.specs.Prelude.{ℕ, zero, suc, ◌+◌, ◌-◌, ◌*◌, ◌<◌, min, ◌≡◌, Bool, true, false, not, ◌&&◌, ◌||◌, List, [], ◌∷◌, eqb, ltb, get_or}
+use Rattle.std.specs.Prelude.{ℕ, zero, suc, ◌+◌, ◌-◌, ◌*◌, ◌<◌, min, ◌≡◌, Bool, true, false, not, ◌&&◌, ◌||◌, List, [], ◌∷◌, eqb, ltb, map, get_or, Option, Some, is_some}
 use Rattle.std.specs.Int.Bits.{bit_and}
 use Rattle.bits.specs.Bits.{has, num, split, of_rows}
 use Rattle.bits.specs.Tests.{pick, below, some, first, ◌⊕◌}
@@ -11,7 +11,6 @@ use Rattle.wiring.specs.Test.{changes, pole_f, pole_g, steady, turned, h_row}
 use Rattle.contents.specs.declared.Side.{Side}
 use Rattle.contents.specs.declared.Wires.{Wires}
 use Rattle.contents.specs.declared.Asked.{Asked}
-use Rattle.contents.specs.declared.Chosen.{Chosen}
 use Rattle.contents.specs.Contents.{no_contents}
 
 -- the table row that the four pins of a key select
@@ -59,10 +58,21 @@ abbrev pub Marks : (t : List ℕ) (w : Wires) (v : Bool) (m : ℕ) (bytes : List
 Marks t w v m bytes =
     (s e : ℕ) → s < 16 → e < 8 → has (get_or bytes s 0) (7 - e) ≡ asked_by t w v m s e
 
+-- a component that asks nothing
+abbrev pub nothing : Asked
+nothing = record { ones = 0; zeros = 0 }
+
+-- what all components ask to be 1, and to be 0
+abbrev pub asked_ones : List Asked → List ℕ
+asked_ones a = map (λ x. x.ones) a
+
+abbrev pub asked_zeros : List Asked → List ℕ
+asked_zeros a = map (λ x. x.zeros) a
+
 -- what the rows below m ask
-pub record AreAsked (t : List ℕ) (w : Wires) (m : ℕ) (a : Asked) : Type 0 where
-  pub ones : Marks t w true m a.one
-  pub zeros : Marks t w false m a.zero
+pub record AreAsked (t : List ℕ) (w : Wires) (m : ℕ) (a : List Asked) : Type 0 where
+  pub ones : Marks t w true m (asked_ones a)
+  pub zeros : Marks t w false m (asked_zeros a)
 
 -- the row of H where F's output is turned, or G's, or both
 unfoldable pub flip : (f g : Bool) (e : ℕ) → ℕ
@@ -85,22 +95,22 @@ unfoldable pub choice_by : (w : Wires) (h ones zeros : ℕ) → ℕ
 choice_by w h ones zeros = first (serves_by w h ones zeros) 16
 
 -- those of component s
-abbrev pub choice_at : (w : Wires) (a : Asked) (h s : ℕ) → ℕ
-choice_at w a h s = choice_by w h (get_or a.one s 0) (get_or a.zero s 0)
+abbrev pub choice_at : (w : Wires) (a : List Asked) (h s : ℕ) → ℕ
+choice_at w a h s = choice_by w h (get_or (asked_ones a) s 0) (get_or (asked_zeros a) s 0)
 
 -- every component has polarities that serve
-unfoldable pub holds_by : (w : Wires) (a : Asked) (h : ℕ) → Bool
+unfoldable pub holds_by : (w : Wires) (a : List Asked) (h : ℕ) → Bool
 holds_by w a h = below (λ s. ltb (choice_at w a h s) 16) 16
 
--- whether every component has polarities, and then which
-pub record AreChosen (w : Wires) (a : Asked) (h : ℕ) (c : Chosen) : Type 0 where
-  pub holds : c.fine ≡ holds_by w a h
-  pub each : c.fine ≡ true → (s : ℕ) → s < 16 → get_or c.poles s 0 ≡ choice_at w a h s
+-- the polarities of every component, where every component has some
+pub record AreChosen (w : Wires) (a : List Asked) (h : ℕ) (c : Option (List ℕ)) : Type 0 where
+  pub holds : is_some c ≡ holds_by w a h
+  pub each : (poles : List ℕ) → c ≡ Some poles → (s : ℕ) → s < 16 → get_or poles s 0 ≡ choice_at w a h s
 
 -- table H with polarities 0 serves the component of row 0, and polarities serve every component
-unfoldable pub possible_by : (w : Wires) (a : Asked) (h : ℕ) → Bool
+unfoldable pub possible_by : (w : Wires) (a : List Asked) (h : ℕ) → Bool
 possible_by w a h =
-    serves_by w h (get_or a.one (component_by w 0) 0) (get_or a.zero (component_by w 0) 0) 0
+    serves_by w h (get_or (asked_ones a) (component_by w 0) 0) (get_or (asked_zeros a) (component_by w 0) 0) 0
     && holds_by w a h
 
 -- the row of nine variables that shows table row x to the four pins of a key
@@ -117,7 +127,7 @@ filled_by w s poles at x =
     (at - num (s.bridged && reads w.direct (shown_by s.key x))))
 
 -- the contents with table H, or none
-unfoldable pub with_table : (w : Wires) (a : Asked) (h : ℕ) → ℕ
+unfoldable pub with_table : (w : Wires) (a : List Asked) (h : ℕ) → ℕ
 with_table w a h =
     pick (quiet 8 h (w.direct ∷ []) && holds_by w a h)
     ((of_rows 16 (filled_by w w.f (choice_at w a h) 3) * 65536

@@ -1,6 +1,6 @@
 -- The contents of F, G and H on the pins of two sets and a direct pin, as one number of 40 bits whose
 -- order is byte order; and the least that computes a table. Assumes nothing.
-use Rattle.std.specs.Prelude.{ℕ, ◌<◌, ◌≤◌, ◌/◌, ◌%◌, ◌^◌, ◌≡◌, Bool, true, false, ◌&&◌, List, ltb, leb, length}
+use Rattle.std.specs.Prelude.{ℕ, ◌<◌, ◌≤◌, ◌/◌, ◌%◌, ◌^◌, ◌≡◌, Bool, true, false, ◌&&◌, List, ltb, leb, length, Option, None, Some, unwrap_or}
 use Rattle.block.specs.Table.{most_inputs}
 use Rattle.block.specs.Block.{Block}
 use Rattle.block.specs.Tidy.{field_fits, rows_quiet}
@@ -40,7 +40,12 @@ pub record LeastFilling (n : ℕ) (t : List ℕ) (f g direct x : ℕ) : Type 0 w
   pub fills : x < no_contents → Fills n t f g direct x
   pub least : (y : ℕ) → Fills n t f g direct y → x ≤ y
 
--- what `least` promises: on a tidy choice of pins the least filling, else `no_contents`
-pub record Weighs (n : ℕ) (t : List ℕ) (f g direct x : ℕ) : Type 0 where
-  pub refused : is_wiring n f g direct ≡ false → x ≡ no_contents
-  pub weighed : is_wiring n f g direct ≡ true → LeastFilling n t f g direct x
+-- the least filling as an answer: `None` where there is none
+pub record IsLeast (n : ℕ) (t : List ℕ) (f g direct : ℕ) (r : Option ℕ) : Type 0 where
+  pub least : LeastFilling n t f g direct (unwrap_or r no_contents)
+  pub small : (x : ℕ) → r ≡ Some x → x < no_contents
+
+-- what `least` promises: on a tidy choice of pins the least filling, else `None`
+pub record Weighs (n : ℕ) (t : List ℕ) (f g direct : ℕ) (r : Option ℕ) : Type 0 where
+  pub refused : is_wiring n f g direct ≡ false → r ≡ None
+  pub weighed : is_wiring n f g direct ≡ true → IsLeast n t f g direct r

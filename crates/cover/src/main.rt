@@ -3,11 +3,10 @@
 
 #![tactic(auto)]
 
-ghost use Rattle.std.specs.Prelude.{◌≡◌, length};
 ghost use Rattle.block.specs.Refusal.{number_of};
 ghost use Rattle.desk.specs.Desk.{IsTold};
 
-use block::{Refusal, Written};
+use block::Refusal;
 use input::Input;
 use line::LONGEST;
 use std::env::FillError;
@@ -19,14 +18,8 @@ use std::rt::{Env, Files};
 // The longest text, 1,048,576 bytes, and one byte more: what fills it is too long.
 const ROOM: usize = 1048577;
 
-// Zeros. A caller's proof knows their number and does not count them.
-fn room() -> [u8; ROOM]
-    ensures { 1048577 ≡ length result }
-{
-    [0; ROOM]
-}
-
-// A sentence that cannot be written is let go.
+// A sentence that cannot be written is let go. This and `print` stand in each program: of what is written no contract
+// speaks, so that a public function would promise nothing.
 fn complain(rt: &impl Eprint, sentence: &str) {
     let _ = rt.eprint(sentence);
 }
@@ -37,73 +30,47 @@ fn print(rt: &(impl Print + Eprint), text: &[u8]) {
     }
 }
 
-// A line that does not fit: there is none, and 0 is no refusal.
-fn unfit(number: u8)
-    requires { number ≡ 0 }
-{}
-
-// 0 is no refusal, and every other number has been explained.
-fn explained(number: u8)
-    requires { number ≡ 0 }
-{}
-
-// What a refusal's number means.
-fn explain(rt: &impl Eprint, number: u8)
-    requires { IsTold number }
+// What a refusal means, of those that are told.
+fn meaning(refusal: Refusal) -> &'static str
+    requires { IsTold (number_of refusal) }
 {
-    match number {
-        1 => complain(
-            rt,
-            "cover: 1 means that the part has more than nine inputs\n",
-        ),
-        4 => complain(
-            rt,
-            "cover: 4 means that no single block computes the function\n",
-        ),
-        15 => complain(
-            rt,
+    match refusal {
+        Refusal::TooManyInputs => "cover: 1 means that the part has more than nine inputs\n",
+        Refusal::NoMatch => "cover: 4 means that no single block computes the function\n",
+        Refusal::NoCover =>
             "cover: 15 means that the text is not one .names part (docs/COVERS.md says what is)\n",
-        ),
-        16 => complain(
-            rt,
-            "cover: 16 means that a name is used twice, the output's included\n",
-        ),
-        17 => complain(
-            rt,
+        Refusal::NameTwice => "cover: 16 means that a name is used twice, the output's included\n",
+        Refusal::BothOutputs =>
             "cover: 17 means that there are lines with output 1 and lines with output 0\n",
-        ),
-        _ => explained(number),
+        _ => unreachable!(),
     }
 }
 
 fn answer(rt: &(impl Print + Eprint), text: &[u8]) {
     let mut out = [0u8; LONGEST];
     let said = desk::of_text(text, &mut out);
-    let line = said.line;
-    match line {
-        Written::Length(used) => print(rt, &out[0..used]),
-        Written::Refused(k) => unfit(block::number(k)),
+    let used = said.line.unwrap();
+    print(rt, &out[..used]);
+    if let Some(refusal) = said.refusal {
+        complain(rt, meaning(refusal));
     }
-    explain(rt, said.number);
 }
 
 // A text that is not read whole has no line.
+#[tactic(auto, using(input::proofs::RoomLaws::whole_within, input::proofs::RoomLaws::whole_taken))]
 fn answer_from<S: Read>(rt: &(impl Print + Eprint), from: &mut S) {
-    let mut text = room();
-    let got = input::read(from, &mut text);
-    match got {
-        Input::Whole(used) => answer(rt, &text[0..used]),
-        Input::Longer => complain(rt, "cover: the text is longer than 1,048,576 bytes\n"),
-        Input::Failed(_) => complain(rt, "cover: the text could not be read\n"),
+    let mut text = input::room::<ROOM>();
+    match input::read(from, &mut text) {
+        Ok(Input::Whole(used)) => answer(rt, &text[..used]),
+        Ok(Input::Longer) => complain(rt, "cover: the text is longer than 1,048,576 bytes\n"),
+        Err(_) => complain(rt, "cover: the text could not be read\n"),
     }
 }
 
 // A name that is not UTF-8 opens nothing.
 fn open<R: Files>(rt: &R, name: &[u8]) -> io::Result<R::File> {
-    match str::from_utf8(name) {
-        Ok(path) => File::open(rt, path),
-        Err(_) => Err(io::Error::from(io::ErrorKind::InvalidFilename)),
-    }
+    let path = str::from_utf8(name).map_err(|_| io::Error::from(io::ErrorKind::InvalidFilename))?;
+    File::open(rt, path)
 }
 
 // A name that has no room here comes as an empty one, which opens nothing.

@@ -1,5 +1,7 @@
 -- The number told is 0, 1, 4, 15, 16 or 17: the room is enough for every table, and what was read is a
 -- table that the matcher does not refuse with 1, 2, 3 or 5. Assumes nothing.
+use Rattle.std.specs.Prelude.{Err, Ok, Result}
+use Rattle.block.specs.declared.Refusal.{Refusal}
 use mathlib.Core.Path.{◌≡◌, refl, ap, ◌∙◌}
 use mathlib.Core.Bool.{Bool, true, false, not}
 use mathlib.Core.List.{List}
@@ -11,7 +13,6 @@ use borrow.Author.Tests.{le-ltb, ltb-false, eqb-true, ne_eqb}
 use Rattle.bits.specs.Tests.{pick}
 use Rattle.bits.proofs.SearchLaws.{byBool, clash}
 use Rattle.bits.proofs.TestLaws.{or_cases}
-use Rattle.block.specs.declared.Written.{Written}
 use Rattle.block.specs.Table.{table_bytes}
 use Rattle.block.specs.Refusal.{too_many_inputs}
 use Rattle.block.specs.Answer.{Answer, written_of}
@@ -21,10 +22,11 @@ use Rattle.codec.specs.Ten.{ten_zeros}
 use Rattle.matcher.specs.Match.{Matched}
 use Rattle.words.specs.Text.{Word, content_of}
 use Rattle.blif.specs.declared.Cover.{Cover}
-use Rattle.blif.specs.declared.Cover.TheVariants.{Table, Refused}
 use Rattle.blif.specs.Part.{names_of, cover_of, inputs_of, is_part, repeats, both_outputs}
 use Rattle.blif.specs.Cover.{cover_refusal, table_room, Reads}
 use Rattle.line.specs.declared.Said.{Said}
+use Rattle.line.specs.Line.{told_number}
+use Rattle.line.proofs.LineLaws.{told-written}
 use Rattle.desk.specs.Desk.{SaysCover, Tells, IsTold}
 use Rattle.desk.proofs.MatchedLaws.{read_number}
 
@@ -44,25 +46,25 @@ reading-told content =
     (pick-told (repeats (names_of content)) 16 _ refl (pick-told (both_outputs (cover_of content)) 17 0 refl refl))))
 
 -- of matching what was read
-matching-told : (text table ten : List ℕ) (n used : ℕ) (answer : Written)
-    → Reads text table_room table (Table n used) → Matched n (take used table) ten_zeros ten answer
+matching-told : (text table ten : List ℕ) (x : Cover) (answer : Result ℕ Refusal)
+    → Reads text table_room table (Ok x) → Matched x.n (take x.used table) ten_zeros ten answer
     → IsTold (written_of answer).number
 unfolding IsTold
-matching-told text table ten n used answer read m =
+matching-told text table ten x answer read m =
     ⊎_elim (λ e. rw e refl) (λ e. rw e refl)
-    (read_number text table_room table n used read ten_zeros ten answer m)
+    (read_number text table_room table x read ten_zeros ten answer m)
 
-cover-told : (text table before after : List ℕ) (cover : Cover) (r : Said) → Reads text table_room table cover
-    → SaysCover cover table before after r → IsTold r.number
+cover-told : (text table before after : List ℕ) (cover : Result Cover Refusal) (r : Said) → Reads text table_room table cover
+    → SaysCover cover table before after r → IsTold (told_number r.refusal)
 unfolding SaysCover
-cover-told text table before after (Table n used) r read s =
-    rw s.number (matching-told text table s.ten n used s.answer read s.matched)
-cover-told text table before after (Refused k) r read s =
+cover-told text table before after (Ok x) r read s =
+    rw (s.refusal, told-written s.answer) (matching-told text table s.ten x s.answer read s.matched)
+cover-told text table before after (Err k) r read s =
     let refusal = cover_refusal (content_of text) (length table_room) in
     let told = ap (λ (a : Answer (ℕ × ℕ)). a.number) read.told in
-    rw (s.number, told ∙ answered-number refusal _ _) (reading-told (content_of text))
+    rw (s.refusal, told ∙ answered-number refusal _ _) (reading-told (content_of text))
 
-pub tells-numbers : (text before after : List ℕ) (r : Said) → Tells text before after r → IsTold r.number
+pub tells-numbers : (text before after : List ℕ) (r : Said) → Tells text before after r → IsTold (told_number r.refusal)
 tells-numbers text before after r t =
     cover-told text t.table before after t.cover r t.read t.told
 

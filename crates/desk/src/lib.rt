@@ -4,21 +4,19 @@
 
 ghost use Rattle.desk.specs.Desk.{Tells};
 
-use blif::{Cover, TABLE_ROOM};
+use blif::TABLE_ROOM;
 use line::Said;
 
-// The line of a cover's text, and the refusal's number: reading refuses it, or it has a table, and the
-// line is that table's.
+// The line of a cover's text, and the refusal that is told: reading refuses it, or it has a table, and
+// the line is that table's.
+#[tactic(auto, unfolding(crate::specs::Desk::SaysCover))]
 pub fn of_text(text: &[u8], out: &mut [u8]) -> Said
     ensures { Tells text.now out.old out.new result }
 {
+    // no heap where tables are matched
     let mut table = [0u8; TABLE_ROOM];
-    let cover = blif::read(text, &mut table);
-    match cover {
-        Cover::Table(n, used) => line::say(n, &table[0..used], out),
-        Cover::Refused(k) => Said {
-            number: block::number(k),
-            line: text::of_refusal(k, out),
-        },
+    match blif::read(text, &mut table) {
+        Ok(cover) => line::say(cover.n, &table[..cover.used], out),
+        Err(k) => Said::refused(k, out),
     }
 }

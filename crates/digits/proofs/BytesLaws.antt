@@ -1,6 +1,7 @@
 -- Bytes read pair by pair, in the word's own buffer. Assumes nothing.
+use Rattle.std.specs.Prelude.{None, Some}
 use mathlib.Core.Path.{◌≡◌, refl, sym, ◌∙◌}
-use mathlib.Core.Bool.{true, false, and-false, and-true}
+use mathlib.Core.Bool.{true, false}
 use mathlib.Core.List.{List, [], ◌∷◌, ◌++◌}
 use Prim.Native.Nat.{ℕ, zero, suc, ◌+◌, ◌-◌, ◌*◌, ◌/◌, ◌%◌, ◌<◌, ◌≤◌}
 use native.Mathlib.Numerals.{add-one}
@@ -15,8 +16,7 @@ use Rattle.bits.specs.Tests.{every}
 use Rattle.bits.proofs.ListLaws.{every-at}
 use Rattle.bits.proofs.TestLaws.{both_right}
 use Rattle.words.specs.Text.{Word}
-use Rattle.digits.specs.declared.Bytes.TheVariants.{Are, NoBytes}
-use Rattle.digits.specs.Spelled.{digit_value, is_hexadecimal, is_bytes, bytes_in}
+use Rattle.digits.specs.Spelled.{digit_value, is_hexadecimal, value_told, is_bytes, bytes_in}
 use Rattle.digits.specs.Spelled.{spelled_bytes, SpellsBytes}
 use Rattle.digits.proofs.SpelledLaws.{bytes-length}
 
@@ -63,6 +63,10 @@ value-small : (word : Word) (j : ℕ) → every is_hexadecimal word ≡ true →
     → digit_value (get_or word j 0) < 16
 value-small word j hex l = ltb-true (digit_value (get_or word j 0)) 16 (every-at is_hexadecimal word hex j l)
 
+-- a digit has its value
+pub told_some : (c : ℕ) → is_hexadecimal c ≡ true → value_told c ≡ Some (digit_value c)
+told_some c e = rw e
+
 whole-byte : (high low : ℕ) → high < 16 → low < 16 → byte_of high low ≡ high * 16 + low
 whole-byte high low h l = omega arith
 
@@ -73,10 +77,6 @@ pub record Spelling (word now : Word) (many i : ℕ) : Type 0 where
   pub within : i ≤ many
   pub long : length now ≡ length word
   pub so_far : now ≡ spelled_to word i
-
-pub spelling-start : (word : Word) → is_bytes word ≡ true → Spelling word word (length word / 2) 0
-spelling-start word whole =
-    record { whole = whole; half = refl; within = omega arith; long = refl; so_far = refl }
 
 -- the next byte, of the two digits that stand for it
 next-byte : (word now : Word) (i : ℕ) → is_bytes word ≡ true → i < length word / 2 → now ≡ spelled_to word i
@@ -95,6 +95,16 @@ next-byte word now i whole l so_far =
     (value-small word (2 * i) hex (omega arith)) (value-small word (2 * i + 1) hex (omega arith))
     ∙ sym (bytes-at word i (omega arith)))
 
+-- what is left to read is digits
+pub digit-there : (word now : Word) (many i j : ℕ) → Spelling word now many i → i ≤ j → j < length word
+    → value_told (get_or now j 0) ≡ Some (digit_value (get_or now j 0))
+unfolding is_bytes
+digit-there word now many i j s l inside =
+    let hex = both_right (eqb (length word % 2) 0) (every is_hexadecimal word) s.whole in
+    let same : get_or now j 0 ≡ get_or word j 0 =
+    rw s.so_far (spelled_to-at word i (omega (arith, s.half, s.within)) j l) in
+    rw same (told_some (get_or word j 0) (every-at is_hexadecimal word hex j inside))
+
 pub spelling-turn : (word now : Word) (many i byte : ℕ) → Spelling word now many i → i < many
     → byte ≡ byte_of (digit_value (get_or now (2 * i) 0)) (digit_value (get_or now (2 * i + 1) 0))
     → Spelling word (set now i byte) many (i + 1)
@@ -109,7 +119,7 @@ spelling-turn word now many i byte s l told =
     }
 
 pub spelling-end : (word now : Word) (many i : ℕ) → Spelling word now many i → many ≤ i
-    → SpellsBytes word now (Are many)
+    → SpellsBytes word now (Some many)
 unfolding spelled_bytes
 spelling-end word now many i s over =
     let size = bytes-length word in
@@ -122,15 +132,6 @@ spelling-end word now many i s over =
           (s.so_far ∙ rw (done, take_all (length (bytes_in word)) (bytes_in word) (omega arith)));
     }
 
--- every byte is a digit, and their number is even
-pub bytes-end : (word : Word) → every is_hexadecimal word ≡ true → eqb (length word % 2) 0 ≡ is_bytes word
-unfolding is_bytes
-bytes-end word hex = rw hex (sym (and-true (eqb (length word % 2) 0)))
-
-pub bytes-stop : (word : Word) → every is_hexadecimal word ≡ false → false ≡ is_bytes word
-unfolding is_bytes
-bytes-stop word other = rw other (sym (and-false (eqb (length word % 2) 0)))
-
-pub spells_nothing : (word : Word) → is_bytes word ≡ false → SpellsBytes word word NoBytes
+pub spells_nothing : (word : Word) → is_bytes word ≡ false → SpellsBytes word word None
 unfolding spelled_bytes
 spells_nothing word other = record { told = rw other; kept = rw other }

@@ -7,7 +7,7 @@ use native.Mathlib.Omega.{arith}
 use lib.Dec.{eqb, ltb}
 use lib.ListN.{length, drop, take, set, replicate, length-append, length-set}
 use lib.Seq.{append_snoc, set_split, drop_at, drop-length, length-take-le}
-use borrow.Author.Tests.{lt-ltb, ltb-true, ltb-false, le-leb, lt-leb, eq-eqb, ne_eqb}
+use borrow.Author.Tests.{lt-ltb, ltb-true, ltb-false, le-leb, eq-eqb, ne_eqb}
 use Rattle.bits.specs.Tests.{pick}
 use Rattle.bits.proofs.SearchLaws.{byBool}
 use Rattle.words.specs.Text.{blank}
@@ -117,10 +117,3 @@ placed_end x zero rest before out w done room =
       kept = rw (le-leb (length (decimal x)) n room) (sym (w.so_far ∙ rw none));
     }
 placed_end x (suc at) rest before out w done room = absurd (omega arith)
-
--- no room
-pub aligns-none : (x : ℕ) (before : List ℕ) → length before < length (decimal x)
-    → Aligns x before before false
-aligns-none x before none =
-    let refused = lt-leb (length (decimal x)) (length before) none in
-    record { told = sym refused; kept = rw refused }

@@ -1,4 +1,5 @@
 -- A number read digit by digit. Assumes nothing.
+use Rattle.std.specs.Prelude.{None, Some}
 use mathlib.Core.Path.{◌≡◌, refl, sym, ap, ◌∙◌}
 use mathlib.Core.Bool.{true, false, and-false}
 use mathlib.Core.List.{[], ◌∷◌}
@@ -15,11 +16,17 @@ use Rattle.bits.proofs.SearchLaws.{byBool}
 use Rattle.bits.proofs.TestLaws.{both_left}
 use Rattle.words.specs.Text.{Word}
 use Rattle.words.proofs.ByteLaws.{every-on, every-stop, every-end}
-use Rattle.digits.specs.declared.Number.TheVariants.{Is, NoNumber}
-use Rattle.digits.specs.Spelled.{within, is_digit, is_number, number_after, number_in, spelled_number, most_number}
+use Rattle.digits.specs.Spelled.{within, is_digit, decimal_told, is_number, number_after, number_in, spelled_number, most_number}
 
 pub within-from : (low high c : ℕ) → within low high c ≡ true → low ≤ c
 within-from low high c inside = leb-true low c (both_left (leb low c) (leb c high) inside)
+
+-- what is told of a byte says whether it is a digit
+pub digit_told : (c d : ℕ) → Some d ≡ decimal_told c → (is_digit c ≡ true) × (d ≡ c - 48)
+digit_told c d e = byBool (is_digit c) (λ is. (is, (let h = rw is at e in cc))) (λ no. (let h = rw no at e in cc))
+
+pub digit_untold : (c : ℕ) → None ≡ decimal_told c → is_digit c ≡ false
+digit_untold c e = byBool (is_digit c) (λ is. (let h = rw is at e in cc)) (λ no. no)
 
 -- digits only add to a number
 number-grows : (word : Word) (x : ℕ) → x ≤ number_after x word
@@ -44,9 +51,6 @@ pub record Reading (word : Word) (most value i : ℕ) : Type 0 where
   pub digits : every is_digit (drop i word) ≡ every is_digit word
   pub number : min (number_after value (drop i word)) most ≡ min (number_in word) most
 
-pub reading-start : (word : Word) (most : ℕ) → Reading word most 0 0
-reading-start word most = record { small = omega arith; digits = refl; number = refl }
-
 pub reading-turn : (word : Word) (most value i next : ℕ) → Reading word most value i → i < length word
     → is_digit (get_or word i 0) ≡ true → next ≡ min (value * 10 + (get_or word i 0 - 48)) most
     → Reading word most next (i + 1)
@@ -63,22 +67,22 @@ reading-turn word most value i next reading l digit told =
 
 -- a byte that is no digit
 pub spells-none : (word : Word) (value i : ℕ) → Reading word most_number value i → i < length word
-    → is_digit (get_or word i 0) ≡ false → NoNumber ≡ spelled_number word
+    → is_digit (get_or word i 0) ≡ false → None ≡ spelled_number word
 unfolding spelled_number is_number
 spells-none word value i reading l other =
     rw (sym reading.digits ∙ every-stop is_digit word i l other, and-false)
 
-pub spells-empty : (word : Word) → length word ≡ 0 → NoNumber ≡ spelled_number word
+pub spells-empty : (word : Word) → length word ≡ 0 → None ≡ spelled_number word
 unfolding spelled_number is_number
 spells-empty word none = rw none
 
 -- no byte is left
 pub spells-number : (word : Word) (value i : ℕ) → Reading word most_number value i → length word ≤ i
-    → (length word ≡ 0 → ⊥) → Is value ≡ spelled_number word
+    → (length word ≡ 0 → ⊥) → Some value ≡ spelled_number word
 unfolding spelled_number is_number number_after
 spells-number word value i reading over some =
     let none : drop i word ≡ [] = drop_of_length-le word over in
     let digits : every is_digit word ≡ true = sym reading.digits ∙ every-end is_digit word i over in
     let read : min value most_number ≡ min (number_in word) most_number = rw none at reading.number in
     let same : value ≡ min (number_in word) most_number = omega (arith, read, reading.small) in
-    rw (lt-ltb 0 (length word) (omega arith), digits) (ap Is same)
+    rw (lt-ltb 0 (length word) (omega arith), digits) (ap Some same)

@@ -1,4 +1,5 @@
 -- What a word spells is what was written. Assumes nothing.
+use Rattle.std.specs.Prelude.{Some, Option}
 use mathlib.Core.Path.{◌≡◌, refl, sym, ◌∙◌}
 use mathlib.Core.Bool.{true}
 use mathlib.Core.List.{List, [], ◌∷◌, ◌++◌}
@@ -14,9 +15,6 @@ use Rattle.bits.proofs.ListLaws.{every_append}
 use Rattle.bits.proofs.SearchLaws.{byBool}
 use Rattle.bits.proofs.TestLaws.{below_at}
 use Rattle.words.specs.Text.{Word}
-use Rattle.digits.specs.declared.Bytes as answer
-use Rattle.digits.specs.declared.Bytes.TheVariants.{Are}
-use Rattle.digits.specs.declared.Number.TheVariants.{Is}
 use Rattle.digits.specs.Digits.{digit_code, hexadecimal, decimal_in, decimal}
 use Rattle.digits.specs.Spelled.{is_digit, is_number, number_after, number_in, spelled_number, most_number}
 use Rattle.digits.specs.Spelled.{digit_value, is_hexadecimal, is_bytes, bytes_in}
@@ -80,7 +78,7 @@ pub number-back : (x : ℕ) → number_in (decimal x) ≡ x
 unfolding decimal
 number-back x = number-of (suc x) x (digits-enough x)
 
-pub spelled_back : (x : ℕ) → x ≤ most_number → spelled_number (decimal x) ≡ Is x
+pub spelled_back : (x : ℕ) → x ≤ most_number → spelled_number (decimal x) ≡ Some x
 unfolding spelled_number
 spelled_back x l = rw (number_is x, number-back x, min-eq_left {n = x} {m = most_number} l)
 
@@ -120,17 +118,17 @@ bytes-length [] = refl
 bytes-length (c ∷ []) = refl
 bytes-length (c ∷ d ∷ word) = let rest = bytes-length word in omega arith
 
-pub bytes-few : (word : Word) (k : ℕ) → spelled_bytes word ≡ Are k → k ≤ length word
+pub bytes-few : (word : Word) (k : ℕ) → spelled_bytes word ≡ Some k → k ≤ length word
 unfolding spelled_bytes
 bytes-few word k spells =
     byBool (is_bytes word)
     (λ e.
-    let told : Are (length (bytes_in word)) ≡ Are k = rw e at spells in
+    let told : Some (length (bytes_in word)) ≡ Some k = rw e at spells in
     let same : length (bytes_in word) ≡ k = cc in
     omega (arith, bytes-length word))
     (λ e. absurd (let told = rw e at spells in let z : ◌≡◌ {A = ℕ} 0 1 = cc in omega arith))
 
 -- the promise leaves one answer and one buffer
-pub spells-unique : (before after after' : List ℕ) (r q : answer.Bytes) → SpellsBytes before after r
+pub spells-unique : (before after after' : List ℕ) (r q : Option ℕ) → SpellsBytes before after r
     → SpellsBytes before after' q → (r ≡ q) × (after ≡ after')
 spells-unique before after after' r q p p' = (p.told ∙ sym p'.told, p.kept ∙ sym p'.kept)

@@ -6,34 +6,22 @@ ghost use Rattle.std.specs.Prelude.{◌≡◌, ◌%◌, min, ◌||◌, ltb, leng
 ghost use Rattle.bits.specs.Tests.{pick};
 ghost use Rattle.words.specs.Text.{blank};
 ghost use Rattle.digits.specs.Digits.{digit_code, decimal, Aligns};
-ghost use Rattle.digits.specs.Spelled.{is_digit, most_byte, spelled_number, digit_value, is_bytes, SpellsBytes};
-
-// The greatest number that is told.
-const MOST_NUMBER: u64 = 4294967295;
-
-// What a word spells as a number.
-#[derive(Clone, Copy)]
-pub enum Number {
-    Is(u32),
-    NoNumber,
-}
-
-// What a word spells as bytes: how many they are.
-#[derive(Clone, Copy)]
-pub enum Bytes {
-    Are(usize),
-    NoBytes,
-}
+ghost use Rattle.digits.specs.Spelled.{most_byte, spelled_number, decimal_told, value_told, is_bytes, SpellsBytes};
 
 // The hexadecimal digit of the low four bits.
+#[tactic(auto, unfolding(crate::specs::Digits::digit_code))]
 pub fn digit(x: u8) -> u8
     ensures { result ≡ digit_code (x % 16) }
 {
     let low = x % 16;
-    if low < 10 { 48 + low } else { 55 + low }
+    if low < 10 {
+        b'0' + low
+    } else {
+        b'A' - 10 + low
+    }
 }
 
-// How many decimal digits the number has.
+// How many decimal digits the number has. The number itself falls by tens: there is no index to go over.
 pub fn length_of(x: u64) -> usize
     ensures { result ≡ length (decimal x) }
 {
@@ -56,7 +44,8 @@ fn symbol(rest: u64, is_last: bool) -> u8
     b' '
 }
 
-// The number in the whole of the lent buffer, blanks before it, if it fits.
+// The number in the whole of the lent buffer, blanks before it; whether it fits, as `Aligns` promises. From the last
+// byte on, by its place, since the last digit is written also where it is 0.
 pub fn align(x: u64, out: &mut [u8]) -> bool
     ensures { Aligns x out.old out.new result }
 {
@@ -64,92 +53,77 @@ pub fn align(x: u64, out: &mut [u8]) -> bool
         return false;
     }
     let mut rest = x;
-    let mut at = out.len();
-    while 0 < at {
-        out[at - 1] = symbol(rest, at == out.len());
+    for at in (0..out.len()).rev() {
+        out[at] = symbol(rest, at + 1 == out.len());
         rest /= 10;
-        at -= 1;
     }
     true
 }
 
-fn is_digit(c: u8) -> bool
-    ensures { result ≡ is_digit c }
+// The value of a decimal digit, and none of any other byte.
+fn decimal_value(c: u8) -> Option<u8>
+    ensures { result ≡ decimal_told c }
 {
-    (48 <= c) & (c <= 57)
-}
-
-fn least(a: u64, b: u64) -> u64
-    ensures { result ≡ min a b }
-{
-    if a < b { a } else { b }
+    match c {
+        b'0'..=b'9' => Some(c - b'0'),
+        _ => None,
+    }
 }
 
 // The number that the word spells in decimal digits; a greater one counts as the greatest u32.
-pub fn number_in(word: &[u8]) -> Number
+pub fn number_in(word: &[u8]) -> Option<u32>
     ensures { result ≡ spelled_number word.now }
 {
-    if word.len() == 0 {
-        return Number::NoNumber;
+    if word.is_empty() {
+        return None;
     }
-    let mut value: u64 = 0;
-    for i in 0..word.len() {
-        let c = word[i];
-        if !is_digit(c) {
-            return Number::NoNumber;
-        }
-        value = least(value * 10 + (c - 48) as u64, MOST_NUMBER);
+    let mut value = 0u32;
+    for &c in word {
+        let digit = decimal_value(c)?;
+        value = value.saturating_mul(10).saturating_add(u32::from(digit));
     }
-    Number::Is(value as u32)
+    Some(value)
 }
 
 // The number as a byte; one above 255 counts as 255.
 pub fn byte_of(x: u32) -> u8
     ensures { result ≡ min x most_byte }
 {
-    if x < 255 { x as u8 } else { 255 }
+    u8::try_from(x).unwrap_or(u8::MAX)
 }
 
-// The value of a hexadecimal digit; 16 of any other byte.
-fn value_of(c: u8) -> u8
-    ensures { result ≡ digit_value c }
+// The value of a hexadecimal digit, and none of any other byte.
+#[tactic(auto, unfolding(crate::specs::Spelled::digit_value))]
+fn value_of(c: u8) -> Option<u8>
+    ensures { result ≡ value_told c }
 {
-    if is_digit(c) {
-        return c - 48;
+    match c {
+        b'A'..=b'F' => Some(c - b'A' + 10),
+        b'a'..=b'f' => Some(c - b'a' + 10),
+        _ => decimal_value(c),
     }
-    if (65 <= c) & (c <= 70) {
-        return c - 55;
-    }
-    if (97 <= c) & (c <= 102) {
-        return c - 87;
-    }
-    16
 }
 
 // Whether the word is whole bytes in hexadecimal digits.
 fn are_bytes(word: &[u8]) -> bool
     ensures { result ≡ is_bytes word.now }
 {
-    for i in 0..word.len() {
-        if 15 < value_of(word[i]) {
-            return false;
-        }
-    }
-    word.len() % 2 == 0
+    word.len() % 2 == 0 && word.iter().all(|&c| value_of(c).is_some())
 }
 
 // The bytes that the word spells in hexadecimal digits, at the start of its own buffer.
-pub fn bytes_in(word: &mut [u8]) -> Bytes
+pub fn bytes_in(word: &mut [u8]) -> Option<usize>
     ensures { SpellsBytes word.old word.new result }
 {
     if !are_bytes(word) {
-        return Bytes::NoBytes;
+        return None;
     }
     let many = word.len() / 2;
+    // no chunks: the bytes are written where the digits are read
     for i in 0..many {
-        let high = 2 * i;
-        let low = high + 1;
-        word[i] = bits::join4(value_of(word[high]), value_of(word[low]));
+        let high = value_of(word[2 * i]).unwrap();
+        let low = value_of(word[2 * i + 1]).unwrap();
+        word[i] = bits::join4(high, low);
     }
-    Bytes::Are(many)
+    Some(many)
 }

@@ -3,15 +3,14 @@
 
 #![tactic(auto)]
 
-ghost use Rattle.std.specs.Prelude.{◌≡◌, ◌≤◌, length};
-ghost use Rattle.block.specs.Refusal.{number_of};
+ghost use Rattle.std.specs.Prelude.{◌≤◌, length};
 ghost use Rattle.line.specs.Line.{enough};
 
-use block::{Refusal, Written};
 use input::Input;
 use line::{ENOUGH, LONGEST};
 
-// A sentence that cannot be written is let go.
+// A sentence that cannot be written is let go. This and `print` stand in each program: of what is written no contract
+// speaks, so that a public function would promise nothing.
 fn complain(rt: &impl Eprint, sentence: &str) {
     let _ = rt.eprint(sentence);
 }
@@ -22,18 +21,10 @@ fn print(rt: &(impl Print + Eprint), text: &[u8]) {
     }
 }
 
-// A line that does not fit: there is none, and 0 is no refusal.
-fn unfit(number: u8)
-    requires { number ≡ 0 }
-{}
-
 fn answer(rt: &(impl Print + Eprint), s: &[u8]) {
     let mut out = [0u8; LONGEST];
-    let answer = line::of_input(s, &mut out);
-    match answer {
-        Written::Length(used) => print(rt, &out[0..used]),
-        Written::Refused(k) => unfit(block::number(k)),
-    }
+    let used = line::of_input(s, &mut out).unwrap();
+    print(rt, &out[..used]);
 }
 
 // Input that filled the buffer is answered by its first bytes.
@@ -43,12 +34,12 @@ fn answer_first(rt: &(impl Print + Eprint), s: &[u8])
     answer(rt, s);
 }
 
+#[tactic(auto, using(input::proofs::RoomLaws::whole_within, input::proofs::RoomLaws::whole_taken))]
 fn main(rt: HostRuntime) {
     let mut bytes = [0u8; ENOUGH];
-    let got = input::read(&mut rt.stdin(), &mut bytes);
-    match got {
-        Input::Whole(used) => answer(&rt, &bytes[0..used]),
-        Input::Longer => answer_first(&rt, &bytes),
-        Input::Failed(_) => complain(&rt, "drawmitten: standard input could not be read\n"),
+    match input::read(&mut rt.stdin(), &mut bytes) {
+        Ok(Input::Whole(used)) => answer(&rt, &bytes[..used]),
+        Ok(Input::Longer) => answer_first(&rt, &bytes),
+        Err(_) => complain(&rt, "drawmitten: standard input could not be read\n"),
     }
 }

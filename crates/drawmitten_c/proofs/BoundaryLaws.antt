@@ -1,11 +1,11 @@
 -- What stands in the 64 bits, and that they leave one answer. Assumes nothing.
+use Rattle.std.specs.Prelude.{Result}
 use mathlib.Core.Path.{◌≡◌, sym, ap, ◌∙◌}
 use mathlib.Core.List.{List}
 use Prim.Native.Nat.{ℕ, zero, suc, ◌+◌, ◌*◌, ◌/◌, ◌%◌, ◌^◌, ◌<◌, ◌≤◌}
 use native.Mathlib.Nat.{mod-eq_of_lt}
 use native.Mathlib.Omega.{arith}
 use lib.ListN.{length}
-use Rattle.block.specs.declared.Written.{Written}
 use Rattle.block.specs.declared.Parts.{Parts}
 use Rattle.block.specs.declared.Refusal.{Refusal}
 use Rattle.block.specs.declared.Letter.{Letter}
@@ -46,7 +46,7 @@ letter-small B = omega arith
 letter-small C = omega arith
 
 -- a length of less than 2^56 is told whole
-pub word-whole : (r : Written) → (written_of r).parts < 2 ^ 56 → long_word r ≡ written_word r
+pub word-whole : (r : Result ℕ Refusal) → (written_of r).parts < 2 ^ 56 → long_word r ≡ written_word r
 word-whole r small = ap (λ (k : ℕ). (written_of r).number + k * 256) (mod-eq_of_lt small)
 
 part-fits : (refusal size : ℕ) → size ≤ block_bytes → (answered refusal 0 size).parts ≤ block_bytes
@@ -54,13 +54,13 @@ part-fits zero size fits = fits
 part-fits (suc k) size fits = omega arith
 
 -- the length in use of a writer that has at most a block's bytes
-writes-fit : (refusal : ℕ) (bytes before after : List ℕ) (r : Written)
+writes-fit : (refusal : ℕ) (bytes before after : List ℕ) (r : Result ℕ Refusal)
     → Writes refusal bytes before after r → length bytes ≤ block_bytes
     → (written_of r).parts ≤ block_bytes
 writes-fit refusal bytes before after r w fits = rw w.told (part-fits refusal (length bytes) fits)
 
 -- a matcher and a packer are such writers
-pub match-fits : (n : ℕ) (t before after : List ℕ) (r : Written) → Matched n t before after r
+pub match-fits : (n : ℕ) (t before after : List ℕ) (r : Result ℕ Refusal) → Matched n t before after r
     → (written_of r).parts ≤ block_bytes
 match-fits n t before after r (refused some w) = writes-fit _ _ _ _ r w (omega arith)
 match-fits n t before after r (unmatched none never w) = writes-fit _ _ _ _ r w (omega arith)
@@ -68,7 +68,7 @@ match-fits n t before after r (matched none b p w) =
     let ten = packed-ten n b (acceptable n t (length before) none b p.matches) in
     writes-fit _ _ _ _ r w (omega arith)
 
-pub pack-fits : (n : ℕ) (x : Parts) (before after : List ℕ) (r : Written)
+pub pack-fits : (n : ℕ) (x : Parts) (before after : List ℕ) (r : Result ℕ Refusal)
     → Packs n (block_of x) before after r → (written_of r).parts ≤ block_bytes
 pack-fits n x before after r w =
     let ten = packed-length x in writes-fit _ _ _ _ r w (omega arith)

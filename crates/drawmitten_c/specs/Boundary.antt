@@ -1,7 +1,7 @@
 -- One number of 64 bits: the refusal's number, or 0, in the low 8 bits, the other part of the answer
 -- above. Assumes nothing.
-use Rattle.std.specs.Prelude.{ℕ, ◌+◌, ◌*◌, ◌%◌, ◌^◌, ◌<◌, ◌≡◌, List, [], ◌∷◌, length, get_or}
-use Rattle.block.specs.declared.Written.{Written}
+use Rattle.std.specs.Prelude.{ℕ, ◌+◌, ◌*◌, ◌%◌, ◌^◌, ◌<◌, ◌≡◌, List, [], ◌∷◌, length, get_or, Result}
+use Rattle.block.specs.declared.Refusal.{Refusal}
 use Rattle.block.specs.Block.{Lut, Block}
 use Rattle.block.specs.Answer.{Answer, written_of}
 use Rattle.codec.specs.Check.{check_refusal}
@@ -30,7 +30,7 @@ pub record Worded {A : Type 0} (word_of : A → ℕ) (Promised : A → Type 0) (
   pub word : r ≡ word_of answer
 
 -- a writer's answer
-abbrev pub written_word : Written → ℕ
+abbrev pub written_word : Result ℕ Refusal → ℕ
 written_word answer = answer_word (written_of answer)
 
 -- the ten bytes of the first match in a lent buffer, and the length in use
@@ -39,7 +39,7 @@ MatchesC n t before after r = Worded written_word (Matched n t before after) r
 
 -- of an answer whose length in use has no limit of its own: 56 bits of it, which are all of it in a
 -- buffer of less than 2^56 bytes
-abbrev pub long_word : Written → ℕ
+abbrev pub long_word : Result ℕ Refusal → ℕ
 long_word answer = (written_of answer).number + (written_of answer).parts % 2 ^ 56 * 256
 
 -- a slot for each request of a build in a lent buffer, and the length in use
@@ -117,7 +117,7 @@ AppendsC before used x after r =
     WrittenC (append_answer before used x) (sheet_after before used x) after r
 
 -- n and the length in use
-abbrev pub cover_word : Cover → ℕ
+abbrev pub cover_word : Result Cover Refusal → ℕ
 cover_word answer = two_part_word (read_of answer)
 
 -- a cover's table in a lent buffer, n, and the length in use

@@ -2,7 +2,8 @@
 
 #![tactic(auto)]
 
-ghost use Rattle.std.specs.Prelude.{◌≡◌, ◌≤◌};
+ghost use Rattle.std.specs.Prelude.{◌≡◌, ◌≤◌, ◌+◌, ◌*◌};
+ghost use Rattle.block.specs.Kind.{letter_code};
 ghost use Rattle.block.specs.Code.{lut_of};
 ghost use Rattle.record.specs.Record.{offered};
 ghost use Rattle.record.specs.Told.{told_of};
@@ -11,21 +12,24 @@ ghost use Rattle.drawmitten_c.specs.Boundary.{lut_from, block_from};
 ghost use Rattle.drawmitten_c.specs.Boundary.{told_word, Of32Bits, CountsC, PlacesC, CopiesC, AppendsC};
 ghost use Rattle.drawmitten_c.specs.Boundary.{CoversC};
 
-use blif::Cover;
-use block::{FourPin, Parts, Written};
-use codec::Checked;
-use record::{Numbers, Told};
-use types::Typed;
-use value::Evaluated;
+use block::{FourPin, Kind, Parts, Refusal};
+use record::{Numbers, Refused};
 
-// The answer of a writer as a number.
-fn answer_word(answer: Written) -> u64
+// An answer as a word: 56 bits of its value above the number of the refusal, or 0.
+fn word(answer: Result<u64, Refusal>) -> u64
     ensures { result ≡ long_word answer }
 {
     match answer {
-        Written::Length(used) => (used as u64) % 72057594037927936 * 256,
-        Written::Refused(k) => block::number(k) as u64,
+        Ok(value) => value % (1 << 56) * 256,
+        Err(k) => u64::from(block::number(k)),
     }
+}
+
+// The answer of a writer as a word.
+fn answer_word(answer: Result<usize, Refusal>) -> u64
+    ensures { result ≡ long_word answer }
+{
+    word(answer.map(|used| used as u64))
 }
 
 // The ten bytes of the first tidy block that computes a table of n inputs.
@@ -49,11 +53,7 @@ pub extern "C" fn drawmitten_batch(build: &[u8], out: &mut [u8]) -> u64
 pub extern "C" fn drawmitten_check(n: u8, s: &[u8]) -> u64
     ensures { ChecksC n s.now result }
 {
-    let checked = codec::check(n, s);
-    match checked {
-        Checked::Fine => 0,
-        Checked::Refused(k) => block::number(k) as u64,
-    }
+    word(codec::check(n, s).map(|()| 0))
 }
 
 // The value's bit at a row.
@@ -61,11 +61,14 @@ pub extern "C" fn drawmitten_check(n: u8, s: &[u8]) -> u64
 pub extern "C" fn drawmitten_evaluate(n: u8, s: &[u8], row: u32) -> u64
     ensures { EvaluatesC n s.now row result }
 {
-    let evaluated = value::evaluate(n, s, row);
-    match evaluated {
-        Evaluated::Bit(v) => (v as u64) * 256,
-        Evaluated::Refused(k) => block::number(k) as u64,
-    }
+    word(value::evaluate(n, s, row).map(u64::from))
+}
+
+// A type's letter in ASCII, and above it the digit.
+fn kind_word(kind: Kind) -> u64
+    ensures { result ≡ letter_code kind.letter + kind.digit * 256 }
+{
+    u64::from(types::letter_code(kind.letter)) + u64::from(kind.digit) * 256
 }
 
 // The type's letter in ASCII, and above it the digit.
@@ -73,17 +76,10 @@ pub extern "C" fn drawmitten_evaluate(n: u8, s: &[u8], row: u32) -> u64
 pub extern "C" fn drawmitten_type(n: u8, s: &[u8]) -> u64
     ensures { TypesC n s.now result }
 {
-    let typed = types::type_of(n, s);
-    match typed {
-        Typed::Is(kind) => {
-            let letter = kind.letter;
-            (types::letter_code(letter) as u64) * 256 + (kind.digit as u64) * 65536
-        }
-        Typed::Refused(k) => block::number(k) as u64,
-    }
+    word(types::type_of(n, s).map(kind_word))
 }
 
-// The four fields from field `at` on, with a table's rows.
+// The four fields from field `at` on, with a table's rows; they stand as C lends them.
 fn four_pin(fields: &[u8; 9], at: usize, rows: u16) -> FourPin
     requires { at ≤ 4 }
     ensures { lut_of result ≡ lut_from fields.now at rows }
@@ -109,11 +105,9 @@ pub extern "C" fn drawmitten_pack(
 ) -> u64
     ensures { PacksC n (block_from fields.now f g h) out.old out.new result }
 {
-    let f = four_pin(fields, 0, f);
-    let g = four_pin(fields, 4, g);
     let parts = Parts {
-        f,
-        g,
+        f: four_pin(fields, 0, f),
+        g: four_pin(fields, 4, g),
         direct: fields[8],
         h,
     };
@@ -121,13 +115,13 @@ pub extern "C" fn drawmitten_pack(
 }
 
 // The answer of an entry about a sheet as a number.
-fn told_word(told: Told) -> u64
+fn told_word(told: Result<usize, Refused>) -> u64
     requires { Of32Bits (told_of told) }
     ensures { result ≡ told_word (told_of told) }
 {
     match told {
-        Told::Value(x) => (x as u64) * 256,
-        Told::Refused(k, p) => (block::number(k) as u64) + (p as u64) * 256,
+        Ok(value) => value as u64 * 256,
+        Err(refused) => { u64::from(block::number(refused.refusal)) + refused.place as u64 * 256 }
     }
 }
 
@@ -176,9 +170,8 @@ pub extern "C" fn drawmitten_sheet_append(
 pub extern "C" fn drawmitten_cover(text: &[u8], out: &mut [u8]) -> u64
     ensures { CoversC text.now out.old out.new result }
 {
-    let read = blif::read(text, out);
-    match read {
-        Cover::Table(n, used) => (n as u64) * 256 + (used as u64) * 65536,
-        Cover::Refused(k) => block::number(k) as u64,
+    match blif::read(text, out) {
+        Ok(cover) => u64::from(cover.n) * 256 + cover.used as u64 * 65536,
+        Err(k) => word(Err(k)),
     }
 }

@@ -1,5 +1,8 @@
 -- Promises under numbers that a caller capped are those under the numbers themselves: what is refused is
 -- refused as before, and what is accepted was not capped. Assumes nothing.
+use Rattle.std.specs.Prelude.{Err, Ok, Result}
+use Rattle.block.specs.declared.Refusal.{Refusal}
+use Rattle.record.specs.declared.Refused.{Refused}
 use mathlib.Core.Path.{◌≡◌, refl, sym, ap, ◌∙◌}
 use mathlib.Core.List.{List, []}
 use mathlib.Core.Bool.{◌||◌}
@@ -11,17 +14,13 @@ use denote.Ref.{Bor}
 use borrow.Author.Tests.{ltb-true, ltb-false, leb-false}
 use Rattle.bits.proofs.TestLaws.{either-false}
 use Rattle.bits.proofs.SearchLaws.{byBool}
-use Rattle.block.specs.declared.Written.{Written}
-use Rattle.block.specs.declared.Written.TheVariants.{Length, Refused as Unmatched}
 use Rattle.block.specs.Answer.{answered}
 use Rattle.codec.proofs.CheckLaws.{accepted-of-none}
 use Rattle.matcher.specs.Match.{Matched, refused, unmatched, matched}
 use Rattle.matcher.proofs.HeadLaws.{refuses-1}
 use Rattle.blif.specs.declared.Cover.{Cover}
-use Rattle.blif.specs.declared.Cover.TheVariants.{Table, Refused as Unread}
 use Rattle.blif.specs.Cover.{table_room, Reads}
 use Rattle.blif.proofs.CoverLaws.{read-inputs}
-use Rattle.record.specs.declared.Told.{Told}
 use Rattle.record.specs.Record.{Record, most_craft, most_block, offered, pair_of, zero_record}
 use Rattle.record.specs.Fault.{record_refusal, Fault}
 use Rattle.record.specs.Told.{placed, told}
@@ -70,14 +69,14 @@ module _ (s : List ℕ) (used : ℕ) (r q : Record)
       ap (appended 0 s used) (one last (append-fine s used q none).new)
   same-sheet (suc k) some = refl
 
-  appends-alike : (after : List ℕ) (p : Told) → Appends s used r after p → Appends s used q after p
+  appends-alike : (after : List ℕ) (p : Result ℕ Refused) → Appends s used r after p → Appends s used q after p
   appends-alike after p a =
       record {
         answer = rw same-fault at a.answer;
         kept = (rw same-fault at a.kept) ∙ same-sheet (append_fault s used q).number refl;
       }
 
-pub appends-capped : (s : List ℕ) (used craft block n : ℕ) (ten after : List ℕ) (r : Told)
+pub appends-capped : (s : List ℕ) (used craft block n : ℕ) (ten after : List ℕ) (r : Result ℕ Refused)
     → Appends s used (offered (min craft most_number) (min block most_number) (min n most_byte) ten) after r
     → Appends s used (offered craft block n ten) after r
 appends-capped s used craft block n ten after r =
@@ -86,7 +85,7 @@ appends-capped s used craft block n ten after r =
     (λ last. offered-same last craft block n ten) after r
 
 -- more inputs than a block has are refused before anything else
-match-past : (n m : ℕ) (t before after : List ℕ) (r : Written) → 9 < n → 9 < m
+match-past : (n m : ℕ) (t before after : List ℕ) (r : Result ℕ Refusal) → 9 < n → 9 < m
     → Matched n t before after r → Matched m t before after r
 match-past n m t before after r l l' (refused some w) =
     let same = sym (refuses-1 n t (length before) l) ∙ refuses-1 m t (length before) l' in
@@ -96,7 +95,7 @@ match-past n m t before after r l l' (unmatched none never w) =
 match-past n m t before after r l l' (matched none b p w) =
     let one = refuses-1 n t (length before) l in absurd (omega arith)
 
-match-capped : (n : ℕ) (t before after : List ℕ) (r : Written) → Matched (min n most_byte) t before after r
+match-capped : (n : ℕ) (t before after : List ℕ) (r : Result ℕ Refusal) → Matched (min n most_byte) t before after r
     → Matched n t before after r
 match-capped n t before after r m =
     byBool (ltb most_byte n)
@@ -109,15 +108,15 @@ match-capped n t before after r m =
     rw same at m)
 
 -- filing
-block-capped : (found : Written) (s : List ℕ) (used craft block n : ℕ) (ten after : List ℕ) (r : Told)
+block-capped : (found : Result ℕ Refusal) (s : List ℕ) (used craft block n : ℕ) (ten after : List ℕ) (r : Result ℕ Refused)
     → FilesBlock found s used (min craft most_number) (min block most_number) (min n most_byte) ten after r
     → FilesBlock found s used craft block n ten after r
 unfolding FilesBlock
-block-capped (Length long) s used craft block n ten after r f =
+block-capped (Ok long) s used craft block n ten after r f =
     appends-capped s used craft block n ten after r f
-block-capped (Unmatched k) s used craft block n ten after r f = f
+block-capped (Err k) s used craft block n ten after r f = f
 
-pub files-table-capped : (s : List ℕ) (used craft block n : ℕ) (t after : List ℕ) (r : Told)
+pub files-table-capped : (s : List ℕ) (used craft block n : ℕ) (t after : List ℕ) (r : Result ℕ Refused)
     → FilesTable s used (min craft most_number) (min block most_number) (min n most_byte) t after r
     → FilesTable s used craft block n t after r
 files-table-capped s used craft block n t after r f =
@@ -128,18 +127,18 @@ files-table-capped s used craft block n t after r f =
       filed = block-capped f.found s used craft block n f.ten after r f.filed;
     }
 
-read-part-capped : (cover : Cover) (text table s : List ℕ) (used craft block : ℕ) (after : List ℕ) (r : Told)
+read-part-capped : (cover : Result Cover Refusal) (text table s : List ℕ) (used craft block : ℕ) (after : List ℕ) (r : Result ℕ Refused)
     → Reads text table_room table cover
     → FilesRead cover table s used (min craft most_number) (min block most_number) after r
     → FilesRead cover table s used craft block after r
 unfolding FilesRead
-read-part-capped (Table n long) text table s used craft block after r read f =
-    let few = read-inputs text table_room table n long read in
-    let same : min n most_byte ≡ n = omega arith in
-    files-table-capped s used craft block n (take long table) after r (rw same f)
-read-part-capped (Unread k) text table s used craft block after r read f = f
+read-part-capped (Ok cover) text table s used craft block after r read f =
+    let few = read-inputs text table_room table cover read in
+    let same : min cover.n most_byte ≡ cover.n = omega arith in
+    files-table-capped s used craft block cover.n (take cover.used table) after r (rw same f)
+read-part-capped (Err k) text table s used craft block after r read f = f
 
-pub files-cover-capped : (s : List ℕ) (used craft block : ℕ) (text after : List ℕ) (r : Told)
+pub files-cover-capped : (s : List ℕ) (used craft block : ℕ) (text after : List ℕ) (r : Result ℕ Refused)
     → FilesCover s used (min craft most_number) (min block most_number) text after r
     → FilesCover s used craft block text after r
 files-cover-capped s used craft block text after r f =

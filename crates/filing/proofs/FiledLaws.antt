@@ -1,5 +1,6 @@
 -- What a success means: the ten bytes of a match hold the first block, and the record with them is
 -- there, after the others. Assumes nothing.
+use Rattle.std.specs.Prelude.{Ok}
 use mathlib.Core.Path.{◌≡◌, ◌∙◌}
 use mathlib.Core.List.{List, [], ◌∷◌, ◌++◌, append-nil}
 use Prim.Native.Nat.{ℕ, ◌+◌, ◌<◌}
@@ -7,7 +8,6 @@ use native.Mathlib.Omega.{arith}
 use lib.ListN.{length, get_or, take, length-append}
 use lib.Seq.{get_or-append-add}
 use Rattle.bits.specs.Bits.{Bytes}
-use Rattle.block.specs.declared.Written.TheVariants.{Length}
 use Rattle.block.proofs.AnswerLaws.{answered-parts}
 use Rattle.codec.specs.Ten.{ten_zeros, pack_of, unpack_of}
 use Rattle.round.proofs.PackedLaws.{packed-ten, unpack_of-pack_of}
@@ -17,7 +17,6 @@ use Rattle.matcher.proofs.UniqueMatch.{acceptable}
 use Rattle.words.specs.Text.{content_of}
 use Rattle.blif.specs.Part.{inputs_of}
 use Rattle.blif.specs.Cover.{cover_table}
-use Rattle.record.specs.declared.Told.TheVariants.{Value}
 use Rattle.record.specs.Record.{Record, offered, zero_record}
 use Rattle.records.specs.Sheet.{records_of}
 use Rattle.chain.proofs.ListedLaws.{records_of-sheet_of}
@@ -30,7 +29,7 @@ use Rattle.filing.proofs.FilingLaws.{files-appended, cover-table}
 use Rattle.filing.proofs.WithinLaws.{appends-front}
 
 -- the ten bytes of a match
-pub match-first : (n : ℕ) (t ten : List ℕ) (long : ℕ) → Matched n t ten_zeros ten (Length long)
+pub match-first : (n : ℕ) (t ten : List ℕ) (long : ℕ) → Matched n t ten_zeros ten (Ok long)
     → (First n t (unpack_of ten)) × (Bytes ten)
 match-first n t ten long (refused some w) =
     absurd (some (answered-parts (match_refusal n t 10) 0 0 long w.told).0)
@@ -51,7 +50,7 @@ last_within : (rs : List Record) (r : Record) → length rs < length (rs ++ (r �
 last_within rs r = rw (length-append rs (r ∷ [])) (omega arith)
 
 pub table-filed : (s : List ℕ) (used craft block n : ℕ) (t after : List ℕ) (longer : ℕ) → Bytes s
-    → FilesTable s used craft block n t after (Value longer) → Filed s used craft block n t after longer
+    → FilesTable s used craft block n t after (Ok longer) → Filed s used craft block n t after longer
 table-filed s used craft block n t after longer bytes f =
     let done = files-appended s used craft block n t after longer f in
     let first = match-first n t done.ten done.long done.matched in
@@ -74,7 +73,7 @@ table-filed s used craft block n t after longer bytes f =
     }
 
 pub cover-filed : (s : List ℕ) (used craft block : ℕ) (text after : List ℕ) (longer : ℕ) → Bytes s
-    → FilesCover s used craft block text after (Value longer)
+    → FilesCover s used craft block text after (Ok longer)
     → Filed s used craft block (inputs_of (content_of text)) (cover_table (content_of text)) after longer
 cover-filed s used craft block text after longer bytes f =
     table-filed s used craft block (inputs_of (content_of text)) (cover_table (content_of text)) after longer bytes

@@ -1,5 +1,6 @@
 -- A length in use that was told is within the sheet, and what was in use before it is as it was.
 -- Assumes nothing.
+use Rattle.std.specs.Prelude.{Ok}
 use mathlib.Core.Path.{◌≡◌}
 use mathlib.Core.List.{List, ◌++◌}
 use Prim.Native.Nat.{ℕ, ◌+◌, ◌≤◌}
@@ -9,7 +10,6 @@ use lib.Seq.{length-take-le, take_at}
 use Rattle.words.specs.Text.{content_of}
 use Rattle.blif.specs.Part.{inputs_of}
 use Rattle.blif.specs.Cover.{cover_table}
-use Rattle.record.specs.declared.Told.TheVariants.{Value}
 use Rattle.record.specs.Record.{Record, record_bytes, lay_out, offered}
 use Rattle.record.proofs.ToldLaws.{fine_of}
 use Rattle.record.proofs.RecordLaws.{accepted-ten}
@@ -22,7 +22,7 @@ use Rattle.filing.specs.Cover.{FilesCover}
 use Rattle.filing.proofs.FilingLaws.{files-appended, cover-table}
 
 module _ (s : List ℕ) (used : ℕ) (r : Record) (after : List ℕ) (longer : ℕ)
-    (given : Appends s used r after (Value longer)) where
+    (given : Appends s used r after (Ok longer)) where
   succeeded : ((append_fault s used r).number ≡ 0) × (longer ≡ used + record_bytes)
   succeeded = fine_of (append_fault s used r) longer 0 (used + record_bytes) given.answer
 
@@ -45,13 +45,13 @@ module _ (s : List ℕ) (used : ℕ) (r : Record) (after : List ℕ) (longer : �
       (length-take-le used s (omega arith)))
 
 pub files-table-within : (s : List ℕ) (used craft block n : ℕ) (t after : List ℕ) (longer : ℕ)
-    → FilesTable s used craft block n t after (Value longer) → longer ≤ length after
+    → FilesTable s used craft block n t after (Ok longer) → longer ≤ length after
 files-table-within s used craft block n t after longer f =
     let found = files-appended s used craft block n t after longer f in
     appends-within s used (offered craft block n found.ten) after longer found.appends
 
 pub files-cover-within : (s : List ℕ) (used craft block : ℕ) (text after : List ℕ) (longer : ℕ)
-    → FilesCover s used craft block text after (Value longer) → longer ≤ length after
+    → FilesCover s used craft block text after (Ok longer) → longer ≤ length after
 files-cover-within s used craft block text after longer f =
     files-table-within s used craft block (inputs_of (content_of text)) (cover_table (content_of text)) after longer
     (cover-table s used craft block text after longer f)

@@ -16,8 +16,7 @@ use Rattle.bits.proofs.SearchLaws.{byBool, some_out}
 use Rattle.bits.proofs.BitLaws.{has-and}
 use Rattle.subsets.specs.Masks.{masks, key_of, Small}
 use Rattle.subsets.proofs.MaskLaws.{masks-rule}
-use Rattle.filter.specs.Choices.{contains, contained, joining, useful_to, useful_of, choices_of, Listed}
-use Rattle.filter.proofs.FillLaws.{filled_at}
+use Rattle.filter.specs.Choices.{contains, contained, joining, useful_to, useful_of, Listed}
 
 -- the set has the variables of m inside `within`
 abbrev Serves : (within m set : ℕ) → Type 0
@@ -155,25 +154,21 @@ listing n within (suc i) l =
     next-listing n within i (useful_to n within i) (listing n within i (omega arith)) (omega arith)
 
 -- the list that `useful` gives is what the search needs
-pub listed : (n within : ℕ) → n ≤ 9
-    → Listed n within (choices_of n within).sets (choices_of n within).many
-unfolding choices_of useful_of
+pub listed : (n within : ℕ) → n ≤ 9 → Listed n within (useful_of n within) (length (useful_of n within))
+unfolding useful_of
 listed n within l =
     let cut : min n 9 ≡ n = omega arith in
     rw cut
     (let list = useful_to n within 256 in
     let all : Listing n within 256 list = listing n within 256 (omega arith) in
-    let at = filled_at 256 list in
     record {
       most = all.short;
-      small = λ k m. rw (at k m) (small-entry (get_or list k 0) (all.entry k m));
-      below-n = λ k m. rw (at k m) (all.entry k m).3;
-      rises = λ a b h m. rw (at a (omega arith), at b m) (all.rises b a m h);
+      small = λ k m. small-entry (get_or list k 0) (all.entry k m);
+      below-n = λ k m. (all.entry k m).3;
+      rises = λ a b h m. all.rises b a m h;
       complete = λ m s h.
           let found = masks-rule.complete m s in
-          let given = rw found.2 at (all.serving found.0 found.1 (rw found.2 h)) in
-          let same = at given.0 given.1 in
-          (given.0, given.1, rw same given.2, rw same given.3);
+          rw found.2 at (all.serving found.0 found.1 (rw found.2 h));
     })
   where
     small-entry : (x : ℕ) → Entry n 256 x → Small x

@@ -5,7 +5,6 @@ use Rattle.std.specs.Int.Bits.{bit_and}
 use Rattle.bits.specs.Bits.{has}
 use Rattle.bits.specs.Tests.{pick, some}
 use Rattle.subsets.specs.Masks.{masks, key_of, Small}
-use Rattle.filter.specs.declared.Choices.{Choices}
 use Rattle.filter.specs.Support.{inputs_of}
 
 -- the set contains the part
@@ -33,11 +32,6 @@ useful_of n within = useful_to (inputs_of n) within 256
 -- a list with zeros after it, so many numbers in all
 abbrev pub filled_up : (size : ℕ) (list : List ℕ) → List ℕ
 filled_up size list = list ++ replicate (size - length list) 0
-
--- the list as the code holds it
-unfoldable pub choices_of : (n within : ℕ) → Choices
-choices_of n within =
-    record { sets = filled_up 256 (useful_of n within); many = length (useful_of n within) }
 
 -- What the search uses of it: each entry is a set of at most four variables below n, in byte order,
 -- and each such set has an entry, itself or an earlier one, with its variables inside `within`.

@@ -3,13 +3,13 @@
 
 #![tactic(auto)]
 
-ghost use Rattle.std.specs.Prelude.{◌≡◌, ◌<◌, ◌≤◌, ◌^◌, get_or};
+ghost use Rattle.std.specs.Prelude.{◌≡◌, ◌<◌, ◌≤◌, ◌^◌, length, take};
+ghost use Rattle.std.specs.List.{list_any};
 ghost use Rattle.bits.specs.Bits.{num};
-ghost use Rattle.bits.specs.Tests.{some};
 ghost use Rattle.wiring.specs.Wire.{truth};
 ghost use Rattle.wiring.specs.Fits.{depends_on};
 ghost use Rattle.filter.specs.Support.{inputs_of, support_of, one_at_most};
-ghost use Rattle.filter.specs.Choices.{contains, choices_of};
+ghost use Rattle.filter.specs.Choices.{contains, useful_of, filled_up};
 ghost use Rattle.filter.specs.Words.{word_from, rest_of, words_of};
 ghost use Rattle.filter.specs.Two.{two_of};
 
@@ -19,10 +19,10 @@ use rows::{key_of, place, truth};
 fn inputs(n: u8) -> u8
     ensures { (result ≡ inputs_of n) × (result ≤ 9) }
 {
-    if n < 9 { n } else { 9 }
+    n.min(9)
 }
 
-// 2 to the power k.
+// 2 to the power k. That n is at most 9 is asked of two functions here alone, of a number that was cut to it.
 fn power(k: u8) -> u16
     requires { k ≤ 9 }
     ensures { (result ≡ 2 ^ k) × (result ≤ 512) }
@@ -37,6 +37,7 @@ fn depends(n: u8, t: &[u8], v: u8) -> bool
 {
     let keep = 511 - power(v);
     let end = power(n);
+    // Tried with `any` over the range: no proof was found.
     for row in 0u16..end {
         if truth(t, row) != truth(t, row & keep) {
             return true;
@@ -53,55 +54,55 @@ pub fn support(n: u8, t: &[u8]) -> u16
     let mut set: u16 = 0;
     for v in 0u8..end {
         if depends(end, t, v) {
-            set = set | power(v);
+            set |= power(v);
         }
     }
     set
 }
 
-// Sets in the order of the table of 256, then zeros.
+// Sets in the order of the table of 256; what is not in use is 0. A fixed array, since matching uses no heap.
 #[derive(Clone, Copy)]
 pub struct Choices {
-    pub sets: [u16; 256],
-    pub many: u16,
+    sets: [u16; 256],
+    many: usize,
+    ghost most: { many ≤ 256 },
 }
 
-// Whether one of the first sets of the list contains the part.
-fn dominated(list: &[u16; 256], many: u16, part: u16) -> bool
-    requires { many ≤ 256 }
-    ensures { result ≡ some (λ k. contains (get_or list.now k 0) part) many }
-{
-    for k in 0u16..many {
-        if part & list[k as usize] == part {
-            return true;
-        }
+impl Choices {
+    // Those in use.
+    pub fn sets(&self) -> &[u16]
+        ensures { result.now ≡ take self.now.many self.now.sets }
+    {
+        &self.sets[..self.many]
     }
-    false
+}
+
+// Whether one of the sets contains the part.
+fn dominated(sets: &[u16], part: u16) -> bool
+    ensures { result ≡ list_any (λ set. contains set part) sets.now }
+{
+    sets.iter().any(|&set| part & set == part)
 }
 
 // The sets below 2^n whose part inside `within` no earlier one contains.
 pub fn useful(n: u8, within: u16) -> Choices
-    ensures { result ≡ choices_of n within }
+    ensures sets { result.sets ≡ filled_up 256 (useful_of n within) }
+    ensures many { result.many ≡ length (useful_of n within) }
 {
-    let all = subsets::all();
     let end = power(inputs(n));
     let mut sets = [0u16; 256];
-    let mut many: u16 = 0;
-    for i in 0u16..256 {
-        let set = all[i as usize];
+    let mut many = 0usize;
+    for set in subsets::all() {
         if end <= set {
             continue;
         }
-        if dominated(&sets, many, set & within) {
+        if dominated(&sets[..many], set & within) {
             continue;
         }
-        sets[many as usize] = set;
+        sets[many] = set;
         many += 1;
     }
-    Choices {
-        sets: sets,
-        many: many,
-    }
+    Choices { sets, many }
 }
 
 // The table's value at a row, as a number.
@@ -116,6 +117,7 @@ fn word(t: &[u8], from: u16, rest: u16) -> u32
     requires { rest < 512 }
     ensures { result ≡ word_from t.now from rest 32 0 0 }
 {
+    // An iterator of the subsets would serve this one loop: no plainer.
     let fixed = 511 - rest;
     let mut w: u32 = 0;
     let mut y: u16 = 0;
@@ -143,8 +145,8 @@ pub fn words(t: &[u8], within: u16, set: u16) -> [u32; 16]
     let key = key_of(set);
     let rest = rest_of(within, set);
     let mut found = [0u32; 16];
-    for a in 0u8..16 {
-        found[a as usize] = word(t, place(key, a), rest);
+    for (a, slot) in found.iter_mut().enumerate() {
+        *slot = word(t, place(key, a as u8), rest);
     }
     found
 }
@@ -153,18 +155,19 @@ pub fn words(t: &[u8], within: u16, set: u16) -> [u32; 16]
 pub fn two(words: &[u32; 16], key: u8) -> bool
     ensures { result ≡ two_of words.now key }
 {
+    // 0 where there is none yet: a second index is above its base, so options would be no plainer.
     let mut seconds = [0u8; 16];
-    for a in 0u8..16 {
-        let base = a & key;
-        if words[a as usize] == words[base as usize] {
+    for (a, &word) in words.iter().enumerate() {
+        let base = a & key as usize;
+        if word == words[base] {
             continue;
         }
-        let second = seconds[base as usize];
+        let second = seconds[base];
         if second == 0 {
-            seconds[base as usize] = a;
+            seconds[base] = a as u8;
             continue;
         }
-        if words[second as usize] != words[a as usize] {
+        if words[second as usize] != word {
             return false;
         }
     }

@@ -1,64 +1,62 @@
 -- Reading at a place and copying out: what they refuse, and that they leave one answer. Assumes
 -- nothing.
+use Rattle.std.specs.Prelude.{Err, Ok, Result}
+use Rattle.record.specs.declared.Refused.{Refused}
+use Rattle.record.specs.Told.{refused}
 use mathlib.Core.Path.{◌≡◌, refl, sym, ap, ◌∙◌}
 use mathlib.Core.List.{List, [], ◌∷◌, ◌++◌, append-nil}
 use Prim.Native.Nat.{ℕ, ◌*◌, ◌/◌, ◌<◌, ◌≤◌}
 use native.Mathlib.Omega.{arith}
-use borrow.Author.Tests.{le-leb, lt-leb, leb-false, lt-ltb, le-ltb, ltb-false}
+use borrow.Author.Tests.{le-leb, lt-leb, leb-false, lt-ltb, le-ltb}
 use lib.Dec.{leb, ltb}
 use lib.ListN.{length, take, drop, replicate, length-drop}
 use lib.Seq.{take-length, take_all}
 use Rattle.std.proofs.lemmas.List.{length-take-le}
-use Rattle.block.specs.declared.Refusal.{Refusal}
-use Rattle.block.specs.declared.Refusal.TheVariants.{R5, R12}
+use Rattle.block.specs.declared.Refusal.TheVariants.{NoRoom, NotThere}
 use Rattle.block.specs.Refusal.{◌when◌}
 use Rattle.block.specs.Answer.{Answer, answer, buffer_after}
 use Rattle.block.proofs.RefusalLaws.{at-refusal, number-injective}
-use Rattle.block.proofs.AnswerLaws.{never-refused, answered-number}
+use Rattle.block.proofs.AnswerLaws.{never-refused}
 use Rattle.codec.specs.Ten.{block_bytes}
 use Rattle.record.specs.declared.Numbers.{Numbers}
-use Rattle.record.specs.declared.Told.{Told}
-use Rattle.record.specs.declared.Told.TheVariants.{Value, Refused}
-use Rattle.record.specs.Record.{Record, header_bytes, record_bytes, record_of, record_with, zero_record}
+use Rattle.record.specs.Record.{Record, header_bytes, record_bytes, record_of, zero_record}
 use Rattle.record.specs.Record.{numbers_in}
 use Rattle.record.specs.Fault.{whole}
-use Rattle.record.specs.Told.{Placed, placed, told, told_of}
+use Rattle.record.specs.Told.{Placed, placed, told, told_of, fault_of}
 use Rattle.record.specs.Answers.{Numbered}
 use Rattle.record.proofs.RecordLaws.{numbered-record}
-use Rattle.record.proofs.ToldLaws.{stopped_by, passed-by, told-fault, told-fine, then-fine}
-use Rattle.record.proofs.ToldLaws.{then-test, told-unique, value-told, refusal-told}
+use Rattle.record.proofs.ToldLaws.{stopped-by, passed-by, told-fine, then-fine}
+use Rattle.record.proofs.ToldLaws.{then-test, told-unique, value-told, fault-told, fault-stops}
 use Rattle.records.specs.Sheet.{records_of, bytes_at}
 use Rattle.records.specs.Check.{sheet_fault, Counts}
 use Rattle.records.proofs.SheetLaws.{records-length, records-at}
 use Rattle.records.proofs.BoundLaws.{counted}
-use Rattle.finding.specs.declared.Header.{Header}
-use Rattle.finding.specs.declared.Header.TheVariants.{Is, Refused as NotRead}
 use Rattle.finding.specs.declared.Reading.{Reading}
-use Rattle.finding.specs.Read.{record_at, read_fault, Stands, header_answer, reading_of, Reads}
+use Rattle.finding.specs.Read.{record_at, read_fault, Stands, Standing, reading_of, Reads}
 use Rattle.finding.specs.Read.{copy_fault, Copies}
 
 -- a sheet's fault is that of reading in it
-pub read-stops : (s : List ℕ) (place v : ℕ) (t : Told) (k : Refusal) (p : ℕ) → t ≡ Refused k p
-    → Counts s t → told_of t ≡ told (read_fault s place) 0 v
+pub read-stops : (s : List ℕ) (place v : ℕ) (r : Refused) → Counts s (Err r)
+    → told_of (Err r) ≡ told (read_fault s place) 0 v
 unfolding read_fault
-read-stops s place v t k p is e = stopped_by t k p (length (records_of s)) (sheet_fault s) _ v is e
+read-stops s place v r e = stopped-by r (length (records_of s)) (sheet_fault s) _ v e
 
 -- in a sheet that was counted, a place is read just if it is one of its records
-module _ (s : List ℕ) (place : ℕ) (t : Told) (count : ℕ) (is : t ≡ Value count) (e : Counts s t) where
+module _ (s : List ℕ) (place : ℕ) (count : ℕ) (e : Counts s (Ok count)) where
   read-decides : read_fault s place ≡ whole (12 when leb count place ∷ [])
   unfolding read_fault
   read-decides =
-      rw (passed-by t count (length (records_of s)) (sheet_fault s) _ is e, ← (counted s t count is e).1)
+      rw (passed-by count (length (records_of s)) (sheet_fault s) _ e, ← (counted s count e).1)
 
-  pub refuses-12 : (v : ℕ) → count ≤ place → told_of (Refused R12 0) ≡ told (read_fault s place) 0 v
+  pub refuses-12 : (v : ℕ) → count ≤ place → told_of (Err (refused NotThere 0)) ≡ told (read_fault s place) 0 v
   refuses-12 v beyond = rw (read-decides, le-leb count place beyond)
 
-  pub tells-value : (v : ℕ) → place < count → told_of (Value v) ≡ told (read_fault s place) 0 v
+  pub tells-value : (v : ℕ) → place < count → told_of (Ok v) ≡ told (read_fault s place) 0 v
   tells-value v within = rw (read-decides, lt-leb count place within)
 
   pub tells-count : place < count
-      → told_of (Value count) ≡ told (read_fault s place) 0 (length (records_of s))
-  tells-count within = rw (← (counted s t count is e).1) (tells-value count within)
+      → told_of (Ok count) ≡ told (read_fault s place) 0 (length (records_of s))
+  tells-count within = rw (← (counted s count e).1) (tells-value count within)
 
 -- a place that is read has a record
 pub record Readable (s : List ℕ) (place : ℕ) : Type 0 where
@@ -72,10 +70,9 @@ readable_of s place none =
     let within = leb-false records place (then-test (sheet_fault s) 11 (leb records place) none).1 in
     record { none = none; within = rw (records-length s) at within }
 
-pub readable-told : (s : List ℕ) (place : ℕ) (t : Told) (x : ℕ) → t ≡ Value x
-    → told_of t ≡ told (read_fault s place) 0 (length (records_of s)) → Readable s place
-readable-told s place t x is e =
-    readable_of s place (value-told t x (read_fault s place) (length (records_of s)) is e).0
+pub readable-told : (s : List ℕ) (place x : ℕ) → Stands s place (Ok x) → Readable s place
+readable-told s place x e =
+    readable_of s place (value-told x (read_fault s place) (length (records_of s)) e).0
 
 -- a record in the sheet is as long as each
 pub record-long : (s : List ℕ) (place : ℕ) → place < length s / record_bytes
@@ -93,7 +90,7 @@ pub taken-record : (s : List ℕ) (x : Numbers) (ten : List ℕ) → length s �
     → ten
     ≡ take (length (take block_bytes (drop header_bytes s))) (take block_bytes (drop header_bytes s))
     ++ drop (length (take block_bytes (drop header_bytes s))) (replicate block_bytes 0)
-    → reading_of (record { header = Is x; ten = ten }) ≡ answer 0 (placed 0 (record_of s))
+    → reading_of (Ok (record { numbers = x; ten = ten })) ≡ answer 0 (placed 0 (record_of s))
 taken-record s x ten e numbered w =
     let back = drop header_bytes s in
     let long : length back ≡ block_bytes = simp length-drop (omega arith) in
@@ -101,114 +98,73 @@ taken-record s x ten e numbered w =
     let same : ten ≡ back = w ∙ rw (whole, long, whole) (append-nil back) in
     rw (same, numbered-record s x numbered)
 
--- reading that was refused, and the record that was read
-pub reads-refused : (s : List ℕ) (place : ℕ) (t : Told) (k : Refusal) (p : ℕ) → t ≡ Refused k p
-    → told_of t ≡ told (read_fault s place) 0 (length (records_of s))
-    → Reads s place (record { header = NotRead k p; ten = replicate block_bytes 0 })
-reads-refused s place t k p is e =
-    rw (refusal-told t k p (read_fault s place) (length (records_of s)) is e)
-    (sym (told-fault k p zero_record (record_at s place)))
+-- the bytes that stand at a place that is read
+pub standing-of : (s : List ℕ) (place : ℕ) → Readable s place → Standing s place (bytes_at s place)
+standing-of s place readable =
+    record { none = readable.none; bytes = refl; whole = record-long s place readable.within }
 
-pub reads-record : (s : List ℕ) (place : ℕ) (r : Reading) → Readable s place
-    → reading_of r ≡ answer 0 (placed 0 (record_of (bytes_at s place)))
-    → Reads s place r
-reads-record s place r readable e =
+-- the record that was read
+pub reads-record : (s : List ℕ) (place : ℕ) (part : List ℕ) (r : Reading) → Standing s place part
+    → reading_of (Ok r) ≡ answer 0 (placed 0 (record_of part)) → Reads s place (Ok r)
+reads-record s place part r stands e =
     e
     ∙ rw (
-      told-fine (read_fault s place) zero_record (record_at s place) readable.none,
-      records-at s place zero_record readable.within,
+      stands.bytes,
+      told-fine (read_fault s place) zero_record (record_at s place) stands.none,
+      records-at s place zero_record (readable_of s place stands.none).within,
     )
 
--- reading's fault is that of copying out
-pub copy-stops : (s : List ℕ) (place room : ℕ) (t : Told) (k : Refusal) (p : ℕ) → t ≡ Refused k p
-    → told_of t ≡ told (read_fault s place) 0 (length (records_of s))
-    → told_of t ≡ told (copy_fault s place room) 0 record_bytes
+-- copying that was refused, before the room is looked at and by it, and the record that was copied
+pub copies-refused : (s : List ℕ) (place : ℕ) (buffer : List ℕ) (r : Refused) → fault_of r ≡ read_fault s place
+    → Copies s place buffer buffer (Err r)
 unfolding copy_fault
-copy-stops s place room t k p is e =
-    stopped_by t k p (length (records_of s)) (read_fault s place) _ record_bytes is e
-
--- a record that is read is copied just if there is room for it
-module _ (s : List ℕ) (place room : ℕ) (readable : Readable s place) where
-  pub refuses-5 : room < record_bytes → told_of (Refused R5 0) ≡ told (copy_fault s place room) 0 record_bytes
-  unfolding copy_fault
-  refuses-5 short = rw (then-fine (read_fault s place) _ readable.none, lt-ltb room record_bytes short)
-
-  pub tells-length : record_bytes ≤ room
-      → told_of (Value record_bytes) ≡ told (copy_fault s place room) 0 record_bytes
-  unfolding copy_fault
-  tells-length enough =
-      rw (then-fine (read_fault s place) _ readable.none, le-ltb room record_bytes enough)
-
--- the same of what reading told
-pub room_short : (s : List ℕ) (place room : ℕ)
-    → (told (read_fault s place) 0 (length (records_of s))).number ≡ 0 → room < record_bytes
-    → answer 5 (placed 0 0) ≡ told (copy_fault s place room) 0 record_bytes
-room_short s place room none short =
-    let number = answered-number (read_fault s place).number (placed (read_fault s place).place 0) _ in
-    refuses-5 s place room (readable_of s place (sym number ∙ none)) short
-
--- a record that is copied stands in the sheet, and has room
-pub record Copyable (s : List ℕ) (place room : ℕ) : Type 0 where
-  pub none : (copy_fault s place room).number ≡ 0
-  pub within : place < length s / record_bytes
-  pub enough : record_bytes ≤ room
-
-pub copyable-told : (s : List ℕ) (place room : ℕ) (t : Told) (x : ℕ) → t ≡ Value x
-    → told_of t ≡ told (copy_fault s place room) 0 record_bytes → Copyable s place room
-unfolding copy_fault
-copyable-told s place room t x is e =
-    let none = (value-told t x (copy_fault s place room) record_bytes is e).0 in
-    let parts = then-test (read_fault s place) 4 (ltb room record_bytes) none in
+copies-refused s place buffer r e =
+    let stops = fault-stops r (read_fault s place) (whole (5 when ltb (length buffer) record_bytes ∷ [])) e in
     record {
-      none = none;
-      within = (readable_of s place parts.0).within;
-      enough = ltb-false room record_bytes parts.1;
+      answer = fault-told r _ record_bytes stops;
+      kept = rw stops (at-refusal (λ m. buffer ≡ buffer_after m (bytes_at s place) buffer) (λ m. refl) r.refusal);
     }
 
--- copying that was refused, and the record that was copied
-pub copies-refused : (s : List ℕ) (place : ℕ) (buffer : List ℕ) (t : Told) (k : Refusal) (p : ℕ)
-    → t ≡ Refused k p → told_of t ≡ told (copy_fault s place (length buffer)) 0 record_bytes
-    → Copies s place buffer buffer t
-copies-refused s place buffer t k p is e =
-    let found = refusal-told t k p (copy_fault s place (length buffer)) record_bytes is e in
-    let bytes = bytes_at s place in
-    record {
-      answer = e;
-      kept = rw found (at-refusal (λ m. buffer ≡ buffer_after m bytes buffer) (λ m. refl) k);
-    }
+module _ (s : List ℕ) (place : ℕ) (none : (read_fault s place).number ≡ 0) (before : List ℕ) where
+  pub copies-5 : length before < record_bytes → Copies s place before before (Err (refused NoRoom 0))
+  unfolding copy_fault
+  copies-5 short =
+      record {
+        answer = rw (then-fine (read_fault s place) _ none, lt-ltb (length before) record_bytes short);
+        kept = rw (then-fine (read_fault s place) _ none, lt-ltb (length before) record_bytes short);
+      }
 
-pub copies-record : (s : List ℕ) (place : ℕ) (before after : List ℕ) (t : Told)
-    → (copy_fault s place (length before)).number ≡ 0
-    → told_of t ≡ told (copy_fault s place (length before)) 0 record_bytes
-    → after
-    ≡ take (length (bytes_at s place))
-    (bytes_at s place)
-    ++ drop (length (bytes_at s place)) before
-    → Copies s place before after t
-copies-record s place before after t none e w =
-    record { answer = e; kept = rw none (rw take-length at w) }
+  pub copies-record : (after : List ℕ) → record_bytes ≤ length before
+      → after ≡ bytes_at s place ++ drop (length (bytes_at s place)) before
+      → Copies s place before after (Ok record_bytes)
+  unfolding copy_fault
+  copies-record after enough w =
+      record {
+        answer = rw (then-fine (read_fault s place) _ none, le-ltb (length before) record_bytes enough);
+        kept = rw (then-fine (read_fault s place) _ none, le-ltb (length before) record_bytes enough) w;
+      }
 
-same-header : (h g : Header) (a b : List ℕ) → header_answer h a ≡ header_answer g b → (h ≡ g) × (a ≡ b)
-same-header (Is x) (Is y) a b e =
-    let same : record_with x a ≡ record_with y b = ap (λ (z : Answer (Placed Record)). z.parts.value) e in
-    (ap Is (ap numbers_in same), ap (λ (r : Record). r.ten) same)
-same-header (Is x) (NotRead k p) a b e = absurd (never-refused _ _ k e)
-same-header (NotRead k p) (Is y) a b e = absurd (never-refused _ _ k (sym e))
-same-header (NotRead k p) (NotRead m q) a b e =
-    let same = number-injective k m (ap (λ (z : Answer (Placed Record)). z.number) e) in
+same-reading : (r q : Result Reading Refused) → reading_of r ≡ reading_of q → r ≡ q
+same-reading (Ok x) (Ok y) e =
+    let same = ap (λ (z : Answer (Placed Record)). z.parts.value) e in
+    let numbers : x.numbers ≡ y.numbers = ap numbers_in same in
+    let ten : x.ten ≡ y.ten = ap (λ (r : Record). r.ten) same in
+    ap Ok (rw (numbers, ten))
+same-reading (Ok x) (Err r) e = absurd (never-refused _ _ r.refusal e)
+same-reading (Err r) (Ok y) e = absurd (never-refused _ _ r.refusal (sym e))
+same-reading (Err r) (Err q) e =
+    let same = number-injective r.refusal q.refusal (ap (λ (z : Answer (Placed Record)). z.number) e) in
     let place = ap (λ (z : Answer (Placed Record)). z.parts.place) e in
-    let bytes = ap (λ (z : Answer (Placed Record)). z.parts.value.ten) e in
-    (rw (same, place), bytes)
+    ap Err (rw (same, place))
 
-pub stands-unique : (s : List ℕ) (place : ℕ) (r q : Told) → Stands s place r → Stands s place q → r ≡ q
+pub stands-unique : (s : List ℕ) (place : ℕ) (r q : Result ℕ Refused) → Stands s place r → Stands s place q → r ≡ q
 stands-unique s place r q = told-unique r q _
 
-pub reads-unique : (s : List ℕ) (place : ℕ) (r q : Reading) → Reads s place r → Reads s place q → r ≡ q
-reads-unique s place r q e e' =
-    let same = same-header r.header q.header r.ten q.ten (e ∙ sym e') in
-    rw (same.0, same.1)
+pub reads-unique : (s : List ℕ) (place : ℕ) (r q : Result Reading Refused)
+    → Reads s place r → Reads s place q → r ≡ q
+reads-unique s place r q e e' = same-reading r q (e ∙ sym e')
 
-pub copies-unique : (s : List ℕ) (place : ℕ) (before after after' : List ℕ) (r q : Told)
+pub copies-unique : (s : List ℕ) (place : ℕ) (before after after' : List ℕ) (r q : Result ℕ Refused)
     → Copies s place before after r → Copies s place before after' q → (r ≡ q) × (after ≡ after')
 copies-unique s place before after after' r q p p' =
     (told-unique r q _ p.answer p'.answer, p.kept ∙ sym p'.kept)

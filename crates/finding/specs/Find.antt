@@ -1,11 +1,11 @@
 -- The record with a number pair: its place, and its ten bytes as a part of the sheet (document 01,
 -- "Numbered refusals"). Assumes nothing.
-use Rattle.std.specs.Prelude.{ℕ, zero, suc, ◌+◌, ◌*◌, ◌≡◌, List, [], ◌∷◌, take, drop}
+use Rattle.std.specs.Prelude.{ℕ, zero, suc, ◌+◌, ◌*◌, ◌≡◌, List, [], ◌∷◌, take, drop, Result}
+use Rattle.record.specs.declared.Refused.{Refused}
 use Rattle.std.specs.Borrow.{Bor}
 use Rattle.bits.specs.Tests.{pick}
 use Rattle.block.specs.Answer.{Answer}
 use Rattle.codec.specs.Ten.{block_bytes}
-use Rattle.record.specs.declared.Told.{Told}
 use Rattle.record.specs.Record.{Record, header_bytes, record_bytes, has_key}
 use Rattle.record.specs.Fault.{Fault}
 use Rattle.record.specs.Told.{Placed, told, told_of}
@@ -30,7 +30,7 @@ abbrev pub place_answer : (s key : List ℕ) → Answer (Placed ℕ)
 place_answer s key = told (find_fault s key) 0 (place_of s key)
 
 -- what asking for the place promises
-abbrev pub Places : (s key : List ℕ) (r : Told) → Type 0
+abbrev pub Places : (s key : List ℕ) (r : Result ℕ Refused) → Type 0
 Places s key r = told_of r ≡ place_answer s key
 
 -- the part of s with so many bytes from byte `start` on: in the same memory, `start` bytes further

@@ -1,5 +1,7 @@
 -- What of a text does not change what is read: tabs for blanks, more blanks, blanks at a line's ends,
 -- CR LF for LF, comments and blank lines. Assumes nothing.
+use Rattle.std.specs.Prelude.{Result}
+use Rattle.block.specs.declared.Refusal.{Refusal}
 use mathlib.Core.Path.{◌≡◌, refl, ap, ◌∙◌}
 use mathlib.Core.List.{List, [], ◌∷◌, ◌++◌, append_assoc, append-nil}
 use Prim.Native.Nat.{ℕ}
@@ -15,7 +17,7 @@ use Rattle.layout.proofs.ExchangeLaws.{words_last, words-comment, tab-first, bla
 use Rattle.layout.proofs.ExchangeLaws.{blank-first, same_line, later}
 
 -- texts with the same content are read the same
-pub same-content : (text text' before after : List ℕ) (r : Cover) → content_of text ≡ content_of text'
+pub same-content : (text text' before after : List ℕ) (r : Result Cover Refusal) → content_of text ≡ content_of text'
     → Reads text before after r → Reads text' before after r
 same-content text text' before after r same read = rw same at read
 

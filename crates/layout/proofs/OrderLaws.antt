@@ -1,5 +1,7 @@
 -- Lines of a text in another order, or doubled, after the first with words: what is read is the same.
 -- Assumes nothing.
+use Rattle.std.specs.Prelude.{Result}
+use Rattle.block.specs.declared.Refusal.{Refusal}
 use mathlib.Core.Path.{◌≡◌, refl, ◌∙◌}
 use mathlib.Core.Bool.{◌&&◌}
 use mathlib.Core.List.{List, [], ◌∷◌, ◌++◌, map, map-append}
@@ -93,7 +95,7 @@ module _ (head : List ℕ) (first : List Word) (lines : List (List Word))
       (line_plain (head ++ line_feed ∷ x) y y-plain)
       ∙ rw (two-more x y x-plain)
 
-  module _ (before after : List ℕ) (r : Cover) where
+  module _ (before after : List ℕ) (r : Result Cover Refusal) where
     -- x and y are lines, any number of them
     pub lines-exchanged : (x y rest : List ℕ) → NoReturn x → NoReturn y
         → Reads (head ++ line_feed ∷ x ++ line_feed ∷ y ++ line_feed ∷ rest) before after r

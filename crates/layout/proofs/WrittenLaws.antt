@@ -1,5 +1,7 @@
 -- Every table written as a cover, one line for each row at which it is `value`, reads back as itself.
 -- Assumes nothing.
+use Rattle.std.specs.Prelude.{Ok, Result}
+use Rattle.block.specs.declared.Refusal.{Refusal}
 use mathlib.Core.Path.{◌≡◌, ◌∙◌}
 use mathlib.Core.Bool.{true}
 use mathlib.Core.List.{List, [], ◌∷◌, ◌++◌}
@@ -15,7 +17,6 @@ use Rattle.block.specs.Refusal.{table_refusal}
 use Rattle.block.proofs.TableLaws.{well-formed, table_of-ext, table_of-table}
 use Rattle.words.specs.Text.{content_of}
 use Rattle.blif.specs.declared.Cover.{Cover}
-use Rattle.blif.specs.declared.Cover.TheVariants.{Table}
 use Rattle.blif.specs.Part.{is_name, inputs_of, opens, is_part}
 use Rattle.blif.specs.Cover.{value_at, cover_table, cover_refusal, ReadsPart, Reads}
 use Rattle.blif.proofs.CoverLaws.{same-cover}
@@ -87,14 +88,14 @@ module _ (value n : ℕ) (t : List ℕ) where
         ∙ table_of-table n t none bytes)
 
 -- what reading such a text answers and writes; an off-set has a row at which the table is 0
-pub written_back : (value n : ℕ) (t before after : List ℕ) (r : Cover) → value < 2
+pub written_back : (value n : ℕ) (t before after : List ℕ) (r : Result Cover Refusal) → value < 2
     → (value ≡ 0 → HasRow 0 n t) → table_refusal n t ≡ 0 → Bytes t
     → table_bytes n ≤ length before → Reads (cover_text value n t) before after r
-    → (r ≡ Table n (table_bytes n)) × (after ≡ t ++ drop (table_bytes n) before)
+    → (r ≡ Ok (record { n = n; used = table_bytes n })) × (after ≡ t ++ drop (table_bytes n) before)
 written_back value n t before after r two some none bytes fits read =
     let content = cover_content value n t in
     let part : ReadsPart content before after r = rw (written-content value n t) at read in
     let accepted = written-accepted value n t two none (length before) fits in
     let told = rw (accepted, written-inputs value n t) at part.told in
     let kept = rw (accepted, written-table value n t two none some bytes) at part.kept in
-    (same-cover r (Table n (table_bytes n)) told, rw (well-formed n t none).sized at kept)
+    (same-cover r (Ok (record { n = n; used = table_bytes n })) told, rw (well-formed n t none).sized at kept)

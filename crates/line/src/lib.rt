@@ -2,9 +2,9 @@
 
 #![tactic(auto)]
 
-ghost use Rattle.line.specs.Line.{Says, Lines, Answers};
+ghost use Rattle.line.specs.Line.{Says, SaysRefusal, Lines, Answers};
 
-use block::{Refusal, Written};
+use block::Refusal;
 use text::BLOCK_LINE;
 
 // So many bytes of the input decide its line.
@@ -13,46 +13,54 @@ pub const ENOUGH: usize = 66;
 // The longest line.
 pub const LONGEST: usize = BLOCK_LINE;
 
-// A refusal's number, or 0, and what the writer of the line answers.
+// The refusal that is told, if there is one, and what the writer of the line answers.
 #[derive(Clone, Copy)]
 pub struct Said {
-    pub number: u8,
-    pub line: Written,
+    pub refusal: Option<Refusal>,
+    pub line: Result<usize, Refusal>,
+}
+
+impl Said {
+    // A refusal, and its line.
+    pub fn refused(k: Refusal, out: &mut [u8]) -> Said
+        ensures { SaysRefusal k out.old out.new result }
+    {
+        Said {
+            refusal: Some(k),
+            line: text::of_refusal(k, out),
+        }
+    }
 }
 
 // The line of a table of n inputs: the type and the ten bytes of the first tidy block that computes it,
-// or the refusal, with its number.
+// or the refusal, which is told.
 pub fn say(n: u8, t: &[u8], out: &mut [u8]) -> Said
     ensures { Says n t.now out.old out.new result }
 {
     let mut ten = [0u8; 10];
-    let answer = matcher::first_match(n, t, &mut ten);
-    match answer {
-        Written::Length(_) => Said {
-            number: 0,
+    match matcher::first_match(n, t, &mut ten) {
+        Ok(_) => Said {
+            refusal: None,
             line: text::of_block(n, &ten, out),
         },
-        Written::Refused(k) => Said {
-            number: block::number(k),
-            line: text::of_refusal(k, out),
-        },
+        Err(k) => Said::refused(k, out),
     }
 }
 
 // The same line alone.
-pub fn of_table(n: u8, t: &[u8], out: &mut [u8]) -> Written
+pub fn of_table(n: u8, t: &[u8], out: &mut [u8]) -> Result<usize, Refusal>
     ensures { Lines n t.now out.old out.new result }
 {
-    let said = say(n, t, out);
-    said.line
+    say(n, t, out).line
 }
 
 // The line of the whole input: one byte n, then the table and nothing after it.
-pub fn of_input(s: &[u8], out: &mut [u8]) -> Written
+#[tactic(auto, unfolding(crate::specs::Line::Answers))]
+pub fn of_input(s: &[u8], out: &mut [u8]) -> Result<usize, Refusal>
     ensures { Answers s.now out.old out.new result }
 {
-    if s.len() == 0 {
-        return text::of_refusal(Refusal::R2, out);
+    match s.split_first() {
+        Some((&n, table)) => of_table(n, table, out),
+        None => text::of_refusal(Refusal::WrongLength, out),
     }
-    of_table(s[0], &s[1..], out)
 }

@@ -1,5 +1,6 @@
 -- The text of a build: there is one, it is within the buffer and fits, a broken build is the line of 14,
 -- and no other number is told. Assumes nothing.
+use Rattle.std.specs.Prelude.{Err, Ok, Result}
 use mathlib.Core.Path.{◌≡◌, refl, sym, ap, ◌∙◌}
 use mathlib.Core.Bool.{true, false}
 use mathlib.Core.List.{List}
@@ -11,16 +12,14 @@ use borrow.Author.Tests.{ne_eqb, eqb-true}
 use Rattle.bits.proofs.SearchLaws.{clash}
 use Rattle.bits.proofs.TestLaws.{or_cases}
 use Rattle.block.specs.declared.Refusal.{Refusal}
-use Rattle.block.specs.declared.Refusal.TheVariants.{R14}
-use Rattle.block.specs.declared.Written.{Written}
-use Rattle.block.specs.declared.Written.TheVariants.{Length, Refused}
+use Rattle.block.specs.declared.Refusal.TheVariants.{BrokenBuild}
 use Rattle.block.specs.Refusal.{number_of}
 use Rattle.block.specs.Answer.{written_of}
 use Rattle.block.proofs.AnswerLaws.{fills-refused}
 use Rattle.line.specs.declared.Said.{Said}
 use Rattle.text.specs.Line.{refusal_line, WritesText}
 use Rattle.text.proofs.TextLaws.{text-unique}
-use Rattle.line.specs.Line.{longest, SaysRefusal}
+use Rattle.line.specs.Line.{longest, told_number, SaysRefusal}
 use Rattle.line.proofs.LineLaws.{said_same, Short, refusal-short, short-within, short-fits}
 use Rattle.requests.specs.Requests.{requests_of, broken}
 use Rattle.requests.specs.Each.{Each}
@@ -28,41 +27,17 @@ use Rattle.requests.proofs.CountLaws.{refuses-broken}
 use Rattle.listing.specs.Listing.{RequestLine, Lists, SaysListed, Prints, IsPrinted}
 use Rattle.listing.proofs.ListingLaws.{lists-unique, lists-within, lists-refused, lists-fits}
 
--- the two cases of what was listed
-pub prints-lines : (s before lines : List ℕ) (listed : Written) (used : ℕ) (r : Said) → listed ≡ Length used
-    → Lists s before lines listed → r.number ≡ 0 → r.line ≡ Length used → Prints s before lines r
-unfolding SaysListed
-prints-lines s before lines listed used r e lists number line =
-    record {
-      listed = listed;
-      lines = lines;
-      lists = lists;
-      said = rw e (record { number = number; line = line; kept = refl });
-    }
-
-pub prints-refusal : (s before lines after : List ℕ) (listed : Written) (k : Refusal) (r : Said)
-    → listed ≡ Refused k → Lists s before lines listed → r.number ≡ number_of k
-    → WritesText (refusal_line (number_of k)) lines after r.line → Prints s before after r
-unfolding SaysListed
-prints-refusal s before lines after listed k r e lists number written =
-    record {
-      listed = listed;
-      lines = lines;
-      lists = lists;
-      said = rw e (record { number = number; written = written });
-    }
-
-said-unique : (listed : Written) (lines after after' : List ℕ) (r q : Said) → SaysListed listed lines after r
+said-unique : (listed : Result ℕ Refusal) (lines after after' : List ℕ) (r q : Said) → SaysListed listed lines after r
     → SaysListed listed lines after' q → (r ≡ q) × (after ≡ after')
 unfolding SaysListed
-said-unique (Length used) lines after after' r q p p' = (
-  said_same r q (p.number ∙ sym p'.number) (p.line ∙ sym p'.line),
+said-unique (Ok used) lines after after' r q p p' = (
+  said_same r q (p.refusal ∙ sym p'.refusal) (p.line ∙ sym p'.line),
   p.kept ∙ sym p'.kept,
 )
-said-unique (Refused k) lines after after' r q p p' =
+said-unique (Err k) lines after after' r q p p' =
     let text = refusal_line (number_of k) in
     let line = text-unique text lines after after' r.line q.line p.written p'.written in
-    (said_same r q (p.number ∙ sym p'.number) line.0, line.1)
+    (said_same r q (p.refusal ∙ sym p'.refusal) line.0, line.1)
 
 pub prints-unique : (s before after after' : List ℕ) (r q : Said) → Prints s before after r
     → Prints s before after' q → (r ≡ q) × (after ≡ after')
@@ -71,33 +46,33 @@ prints-unique s before after after' r q p p' =
     said-unique p.listed p.lines after after' r q p.said (rw (same.0, same.1) p'.said)
 
 -- the line of a refusal in the buffer as it was
-refusal-said : (s before lines after : List ℕ) (k : Refusal) (line : Written) → Lists s before lines (Refused k)
+refusal-said : (s before lines after : List ℕ) (k : Refusal) (line : Result ℕ Refusal) → Lists s before lines (Err k)
     → WritesText (refusal_line (number_of k)) lines after line → Short before after line
 refusal-said s before lines after k line lists written =
     refusal-short k before after line (rw (lists-refused s before lines k lists).1 at written)
 
-said-within : (s before after : List ℕ) (listed : Written) (lines : List ℕ) (r : Said) (used : ℕ)
-    → r.line ≡ Length used → Lists s before lines listed → SaysListed listed lines after r
+said-within : (s before after : List ℕ) (listed : Result ℕ Refusal) (lines : List ℕ) (r : Said) (used : ℕ)
+    → r.line ≡ Ok used → Lists s before lines listed → SaysListed listed lines after r
     → used ≤ length before
 unfolding SaysListed
-said-within s before after (Length u) lines r used e lists p =
-    let same : u ≡ used = ap (λ (w : Written). (written_of w).parts) (sym p.line ∙ e) in
-    omega (arith, lists-within s before lines (Length u) lists)
-said-within s before after (Refused k) lines r used e lists p =
+said-within s before after (Ok u) lines r used e lists p =
+    let same : u ≡ used = ap (λ (w : Result ℕ Refusal). (written_of w).parts) (sym p.line ∙ e) in
+    omega (arith, lists-within s before lines (Ok u) lists)
+said-within s before after (Err k) lines r used e lists p =
     short-within before after used (rw e at (refusal-said s before lines after k r.line lists p.written))
 
 -- the length in use is within the buffer
-pub prints-within : (s before after : List ℕ) (r : Said) (used : ℕ) → r.line ≡ Length used
+pub prints-within : (s before after : List ℕ) (r : Said) (used : ℕ) → r.line ≡ Ok used
     → Prints s before after r → used ≤ length before
 prints-within s before after r used e p =
     said-within s before after p.listed p.lines r used e p.lists p.said
 
-said_fits : (s before after : List ℕ) (listed : Written) (lines : List ℕ) (r : Said)
+said_fits : (s before after : List ℕ) (listed : Result ℕ Refusal) (lines : List ℕ) (r : Said)
     → longest ≤ length before → Lists s before lines listed → SaysListed listed lines after r
     → (written_of r.line).number ≡ 0
 unfolding SaysListed
-said_fits s before after (Length u) lines r room lists p = rw p.line
-said_fits s before after (Refused k) lines r room lists p =
+said_fits s before after (Ok u) lines r room lists p = rw p.line
+said_fits s before after (Err k) lines r room lists p =
     short-fits before after r.line room
     (refusal-said s before lines after k r.line lists p.written)
 
@@ -107,17 +82,17 @@ pub prints-fits : (s before after : List ℕ) (r : Said) → longest ≤ length 
 prints-fits s before after r room p =
     said_fits s before after p.listed p.lines r room p.lists p.said
 
-said-number : (s before after : List ℕ) (listed : Written) (lines : List ℕ) (r : Said)
+said-number : (s before after : List ℕ) (listed : Result ℕ Refusal) (lines : List ℕ) (r : Said)
     → longest * (length s / 2) ≤ length before → Lists s before lines listed
-    → SaysListed listed lines after r → IsPrinted r.number
+    → SaysListed listed lines after r → IsPrinted (told_number r.refusal)
 unfolding SaysListed IsPrinted
-said-number s before after (Length u) lines r room lists p = rw p.number
-said-number s before after (Refused k) lines r room lists p =
-    rw (p.number, lists-fits s before lines k lists room)
+said-number s before after (Ok u) lines r room lists p = rw p.refusal
+said-number s before after (Err k) lines r room lists p =
+    rw (p.refusal, lists-fits s before lines k lists room)
 
 -- with room for the lines of as many requests as the bytes can hold, 0 and 14 are told
 pub prints-numbers : (s before after : List ℕ) (r : Said) → longest * (length s / 2) ≤ length before
-    → Prints s before after r → IsPrinted r.number
+    → Prints s before after r → IsPrinted (told_number r.refusal)
 prints-numbers s before after r room p =
     said-number s before after p.listed p.lines r room p.lists p.said
 
@@ -129,15 +104,15 @@ printed-zero number told other =
 
 -- a broken build is the line of 14
 pub prints-14 : (s before after : List ℕ) (r : Said) → broken s ≡ true → Prints s before after r
-    → SaysRefusal R14 before after r
+    → SaysRefusal BrokenBuild before after r
 unfolding SaysListed
 prints-14 s before after r some p =
     let refused =
-    fills-refused R14 _ (Each RequestLine (requests_of s)) before
+    fills-refused BrokenBuild _ (Each RequestLine (requests_of s)) before
     (sym (refuses-broken longest s (length before) some)) in
-    let same = lists-unique s before p.lines before p.listed (Refused R14) p.lists refused in
+    let same = lists-unique s before p.lines before p.listed (Err BrokenBuild) p.lists refused in
     said-14 p.listed p.lines same.0 same.1 p.said
   where
-    said-14 : (listed : Written) (lines : List ℕ) → listed ≡ Refused R14 → lines ≡ before
-        → SaysListed listed lines after r → SaysRefusal R14 before after r
+    said-14 : (listed : Result ℕ Refusal) (lines : List ℕ) → listed ≡ Err BrokenBuild → lines ≡ before
+        → SaysListed listed lines after r → SaysRefusal BrokenBuild before after r
     said-14 listed lines e kept q = rw (e, kept) at q

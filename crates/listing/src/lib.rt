@@ -2,67 +2,45 @@
 
 #![tactic(auto)]
 
-ghost use Rattle.std.specs.Prelude.{◌≡◌, length};
-ghost use Rattle.block.specs.declared.Written.TheVariants.{Length};
-ghost use Rattle.block.specs.Answer.{written_of};
-ghost use Rattle.requests.specs.Counting.{Accepted};
 ghost use Rattle.line.specs.Line.{longest};
-ghost use Rattle.listing.specs.Listing.{Lists, Prints};
+ghost use Rattle.listing.specs.Listing.{RequestLine, Lists, Prints};
 
-use block::Written;
+use block::Refusal;
 use line::{LONGEST, Said};
-use requests::Counted;
+use requests::Pieces;
 
-// The length then in use, 0 after a refusal.
-fn length_of(written: Written) -> usize
-    ensures { result ≡ (written_of written).parts }
-{
-    match written {
-        Written::Length(used) => used,
-        Written::Refused(_) => 0,
-    }
-}
+// What is written for a request: its line.
+struct RequestLines;
 
-// The lines of so many requests, where none is broken and there is room for all.
-fn write_lines(build: &[u8], many: usize, out: &mut [u8]) -> usize
-    requires { Accepted longest build.now (length out.old) many }
-    ensures { Lists build.now out.old out.new (Length result) }
-{
-    let mut at = 0;
-    let mut used = 0;
-    for _ in 0..many {
-        let end = at + requests::first(&build[at..]);
-        let written = line::of_table(build[at], &build[at + 1..end], &mut out[used..]);
-        used += length_of(written);
-        at = end;
+impl Pieces for RequestLines {
+    ghost MOST = { longest };
+
+    const MOST: usize = LONGEST;
+
+    ghost Piece = { RequestLine };
+
+    fn write(n: u8, table: &[u8], out: &mut [u8]) -> Result<usize, Refusal> {
+        line::of_table(n, table, out)
     }
-    used
 }
 
 // The lines of a build, from the start of the lent buffer.
-pub fn of_build(build: &[u8], out: &mut [u8]) -> Written
+pub fn of_build(build: &[u8], out: &mut [u8]) -> Result<usize, Refusal>
     ensures { Lists build.now out.old out.new result }
 {
-    let counted = requests::count(build, LONGEST, out.len());
-    match counted {
-        Counted::Refused(k) => Written::Refused(k),
-        Counted::Many(many) => Written::Length(write_lines(build, many, out)),
-    }
+    requests::fill::<RequestLines>(build, out)
 }
 
 // The text that a build comes to: its lines, or the line of the refusal of the whole of it.
+#[tactic(auto, unfolding(crate::specs::Listing::SaysListed))]
 pub fn say(build: &[u8], out: &mut [u8]) -> Said
     ensures { Prints build.now out.old out.new result }
 {
-    let listed = of_build(build, out);
-    match listed {
-        Written::Length(used) => Said {
-            number: 0,
-            line: Written::Length(used),
+    match of_build(build, out) {
+        Ok(used) => Said {
+            refusal: None,
+            line: Ok(used),
         },
-        Written::Refused(k) => Said {
-            number: block::number(k),
-            line: text::of_refusal(k, out),
-        },
+        Err(k) => Said::refused(k, out),
     }
 }

@@ -1,4 +1,5 @@
 -- The bytes of the table as the code makes them. Assumes nothing.
+use Rattle.std.specs.Prelude.{Ok}
 use mathlib.Core.Path.{◌≡◌, refl, sym, ap, ◌∙◌}
 use mathlib.Core.Bool.{Bool, true, false, ◌&&◌, and_comm}
 use mathlib.Core.List.{List, [], ◌∷◌}
@@ -14,7 +15,6 @@ use Rattle.bits.specs.Tests.{pick, ◌⊕◌}
 use Rattle.bits.proofs.SearchLaws.{byBool}
 use Rattle.bits.proofs.RowLaws.{of_rows-ext, of_rows-is_row}
 use Rattle.block.specs.Table.{table_rows, table_bytes, table_byte, table_of}
-use Rattle.block.specs.declared.Written.TheVariants.{Length}
 use Rattle.block.specs.Refusal.{◌when◌, first_of, too_many_inputs}
 use Rattle.block.specs.Answer.{buffer_after, Writes}
 use Rattle.block.proofs.AnswerLaws.{writes_bytes}
@@ -78,7 +78,7 @@ byte-turned false g = refl
 pub table-written : (n : ℕ) (f : ℕ → Bool) (before after : List ℕ) (used : ℕ) → n ≤ 9
     → used ≤ length before → used ≡ table_bytes n → after ≡ buffer_after 0 (table_of n f) before
     → Writes (first_of (1 when too_many_inputs n ∷ 5 when ltb (length before) (table_bytes n) ∷ []))
-    (table_of n f) before after (Length used)
+    (table_of n f) before after (Ok used)
 table-written n f before after used within room sized same =
     writes_bytes _ (table_of n f) before after used
     (rw (le-ltb 9 n within, le-ltb (length before) (table_bytes n) (omega arith)))

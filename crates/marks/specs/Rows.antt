@@ -1,9 +1,9 @@
 -- The 512 rows of nine variables, in eight words of 64 rows, row 0 first. Assumes nothing.
-use Rattle.std.specs.Prelude.{ℕ, suc, ◌-◌, ◌/◌, ◌%◌, Bool, List, [], ◌∷◌, ltb, length, take, drop, get_or}
+use Rattle.std.specs.Prelude.{ℕ, suc, ◌-◌, ◌/◌, ◌%◌, Bool, List, [], ◌∷◌, ltb, length, take, drop, get_or, Result}
+use Rattle.block.specs.declared.Refusal.{Refusal}
 use Rattle.std.specs.Int.Bits.{bit_or}
 use Rattle.bits.specs.Bits.{has, of_rows}
 use Rattle.bits.specs.Tests.{pick, ◌⊕◌}
-use Rattle.block.specs.declared.Written.{Written}
 use Rattle.block.specs.Table.{table_bytes, table_of}
 use Rattle.block.specs.Refusal.{◌when◌, first_of, too_many_inputs}
 use Rattle.block.specs.Answer.{Writes}
@@ -28,7 +28,7 @@ abbrev pub rows_table : (n : ℕ) (words : List ℕ) (flip : Bool) → List ℕ
 rows_table n words flip = table_of n (λ row. flip ⊕ is_set words row)
 
 -- what writing the rows as a table of n inputs promises: refusals 1 and 5
-abbrev pub WritesRows : (n : ℕ) (words : List ℕ) (flip : Bool) (before after : List ℕ) (r : Written)
+abbrev pub WritesRows : (n : ℕ) (words : List ℕ) (flip : Bool) (before after : List ℕ) (r : Result ℕ Refusal)
     → Type 0
 WritesRows n words flip before after r =
     Writes (first_of (1 when too_many_inputs n ∷ 5 when ltb (length before) (table_bytes n) ∷ []))

@@ -10,7 +10,7 @@ ghost use Rattle.block.specs.Answer.{buffer_after};
 ghost use Rattle.marks.specs.Marks.{agrees, covers};
 ghost use Rattle.marks.specs.Rows.{is_set, painted, rows_table, WritesRows};
 
-use block::{Refusal, Written};
+use block::Refusal;
 
 // 512 rows, row 0 in the most significant bit of the first word.
 #[derive(Clone, Copy)]
@@ -50,23 +50,17 @@ fn mask(i: usize, mark: u8) -> u64
 {
     let rows = ones(i);
     let both = mark == b'-';
-    kept(both | (mark == b'1'), rows) | kept(both | (mark == b'0'), u64::MAX - rows)
-}
-
-fn six_at_most(count: usize) -> usize
-    ensures { result ≡ min 6 count }
-{
-    if count < 6 { count } else { 6 }
+    kept(both | (mark == b'1'), rows) | kept(both | (mark == b'0'), !rows)
 }
 
 // The rows of 64 that the first six marks cover.
 fn rows_of(marks: &[u8]) -> u64
     ensures { result ≡ of_rows 64 (covers (take 6 marks.now)) }
 {
-    let end = six_at_most(marks.len());
+    let (first, _) = marks.split_at(marks.len().min(6));
     let mut rows = u64::MAX;
-    for i in 0..end {
-        rows = rows & mask(i, marks[i]);
+    for (i, &mark) in first.iter().enumerate() {
+        rows &= mask(i, mark);
     }
     rows
 }
@@ -75,8 +69,8 @@ fn rows_of(marks: &[u8]) -> u64
 fn words_of(marks: &[u8]) -> u64
     ensures { result ≡ of_rows 64 (covers (take 6 (drop 6 marks.now))) }
 {
-    let from = six_at_most(marks.len());
-    rows_of(&marks[from..])
+    let (_, later) = marks.split_at(marks.len().min(6));
+    rows_of(later)
 }
 
 fn is_row(rows: u64, w: usize) -> bool
@@ -93,8 +87,8 @@ pub fn paint(rows: Rows, marks: &[u8]) -> Rows
     let low = rows_of(marks);
     let high = words_of(marks);
     let mut words = rows.words;
-    for w in 0..8 {
-        words[w] = words[w] | kept(is_row(high, w), low);
+    for (w, word) in words.iter_mut().enumerate() {
+        *word |= kept(is_row(high, w), low);
     }
     Rows { words }
 }
@@ -124,7 +118,7 @@ fn byte(rows: Rows, j: usize) -> u8
 fn turned(flip: bool, b: u8) -> u8
     ensures { result ≡ pick «flip» (255 - b) b }
 {
-    if flip { 255 - b } else { b }
+    if flip { !b } else { b }
 }
 
 // Byte j of the table of n inputs.
@@ -135,27 +129,28 @@ fn table_byte(n: u8, rows: Rows, flip: bool, j: usize) -> u8
     turned(flip, byte(rows, j)) & rows_kept(n)
 }
 
-// The table at the start of the buffer, which has room for its bytes.
-fn fill(n: u8, rows: Rows, flip: bool, size: usize, out: &mut [u8])
-    requires { (n ≤ 9) × (size ≡ table_bytes n) × (size ≤ length out.old) }
-    ensures { out.new ≡ buffer_after 0 (rows_table n rows.words «flip») out.old }
+// The table in the whole of the buffer, which is as long. That n is at most 9 is asked of two functions here alone.
+fn fill(n: u8, rows: Rows, flip: bool, table: &mut [u8])
+    requires { (n ≤ 9) × (length table.old ≡ table_bytes n) }
+    ensures { table.new ≡ rows_table n rows.words «flip» }
 {
-    for j in 0..size {
-        out[j] = table_byte(n, rows, flip, j);
+    for (j, byte) in table.iter_mut().enumerate() {
+        *byte = table_byte(n, rows, flip, j);
     }
 }
 
-// The rows as a table of n inputs at the start of the lent buffer, each value turned if `flip`.
-pub fn write(n: u8, rows: Rows, flip: bool, out: &mut [u8]) -> Written
+// The rows as a table of n inputs at the start of the lent buffer, each value turned if `flip`: by what it promises,
+// `WritesRows`, that is a value and no choice of steps.
+pub fn write(n: u8, rows: Rows, flip: bool, out: &mut [u8]) -> Result<usize, Refusal>
     ensures { WritesRows n rows.words «flip» out.old out.new result }
 {
     if 9 < n {
-        return Written::Refused(Refusal::R1);
+        return Err(Refusal::TooManyInputs);
     }
     let size = block::table_bytes(n);
     if out.len() < size {
-        return Written::Refused(Refusal::R5);
+        return Err(Refusal::NoRoom);
     }
-    fill(n, rows, flip, size, out);
-    Written::Length(size)
+    fill(n, rows, flip, &mut out[..size]);
+    Ok(size)
 }

@@ -1,5 +1,7 @@
 -- The ten bytes of a match themselves: they pass the check, and what they unpack to is tidy and
 -- computes the table. Assumes nothing.
+use Rattle.std.specs.Prelude.{Result}
+use Rattle.block.specs.declared.Refusal.{Refusal}
 use mathlib.Core.Path.{◌≡◌, sym, ap, ◌∙◌}
 use mathlib.Core.List.{List, [], ◌++◌}
 use mathlib.Core.Logic.{◌⊎◌, inl, inr}
@@ -7,7 +9,6 @@ use Prim.Native.Nat.{ℕ}
 use native.Mathlib.Omega.{arith}
 use lib.ListN.{length, take, drop}
 use lib.Seq.{take-append_seam}
-use Rattle.block.specs.declared.Written.{Written}
 use Rattle.block.specs.Block.{Block}
 use Rattle.block.specs.Tidy.{Tidy}
 use Rattle.block.specs.Value.{Computes}
@@ -42,7 +43,7 @@ module _ (n : ℕ) (t : List ℕ) (room : ℕ) (none : match_refusal n t room �
       ap (λ (k : ℕ). take k (pack_of b ++ rest)) (sym ten) ∙ take-append_seam (pack_of b) rest
 
 -- after a match the buffer begins with such bytes
-pub matched-bytes : (n : ℕ) (t before after : List ℕ) (r : Written) → Matched n t before after r
+pub matched-bytes : (n : ℕ) (t before after : List ℕ) (r : Result ℕ Refusal) → Matched n t before after r
     → (written_of r).number ≡ 0 → TidyBytes n t (take 10 after)
 matched-bytes n t before after r (refused some w) e =
     absurd (some (sym (written-number (match_refusal n t (length before)) [] before after r w) ∙ e))
@@ -53,7 +54,7 @@ matched-bytes n t before after r (matched none b p w) e =
     (first-bytes n t (length before) none b p)
 
 -- the number that matching answers is its refusal's, or 4
-pub matched-number : (n : ℕ) (t before after : List ℕ) (r : Written) → Matched n t before after r
+pub matched-number : (n : ℕ) (t before after : List ℕ) (r : Result ℕ Refusal) → Matched n t before after r
     → ((written_of r).number ≡ match_refusal n t (length before)) ⊎ ((written_of r).number ≡ 4)
 matched-number n t before after r (refused some w) = inl (written-number _ [] before after r w)
 matched-number n t before after r (unmatched none never w) = inr (written-number 4 [] before after r w)

@@ -1,4 +1,5 @@
 -- From what the search found to what the matcher promises. Assumes nothing.
+use Rattle.std.specs.Prelude.{Err, None, Option, Result, Some}
 use mathlib.Core.Path.{◌≡◌, refl, ◌∙◌}
 use mathlib.Core.List.{List, []}
 use Prim.Native.Nat.{ℕ, ◌<◌}
@@ -6,9 +7,7 @@ use native.Mathlib.Omega.{arith}
 use lib.ListN.{length}
 use Rattle.block.specs.declared.Parts.{Parts}
 use Rattle.block.specs.declared.Refusal.{Refusal}
-use Rattle.block.specs.declared.Refusal.TheVariants.{R4}
-use Rattle.block.specs.declared.Written.{Written}
-use Rattle.block.specs.declared.Written.TheVariants.{Refused}
+use Rattle.block.specs.declared.Refusal.TheVariants.{NoMatch}
 use Rattle.block.specs.Code.{block_of}
 use Rattle.block.specs.Refusal.{number_of}
 use Rattle.block.proofs.AnswerLaws.{writes-refused}
@@ -20,8 +19,6 @@ use Rattle.round.proofs.PackedLaws.{none-of-acceptable}
 use Rattle.contents.specs.Contents.{block_with, no_contents}
 use Rattle.contents.proofs.ChoiceLaws.{choice-small, pieces}
 use Rattle.matcher.specs.declared.Place.{Place}
-use Rattle.matcher.specs.declared.Found.{Found}
-use Rattle.matcher.specs.declared.Found.TheVariants.{At, Nothing}
 use Rattle.matcher.specs.Match.{match_refusal, Matched, refused, unmatched, matched}
 use Rattle.matcher.specs.Search.{FirstPlace, Searched}
 use Rattle.matcher.proofs.HeadLaws.{well-formed}
@@ -32,18 +29,18 @@ use Rattle.matcher.proofs.AnyLaws.{no_block}
 module _ (n : ℕ) (t before : List ℕ) where
   -- a refusal by the head, and its buffer untouched
   pub matched-refused : (k : Refusal) → number_of k ≡ match_refusal n t (length before)
-      → Matched n t before before (Refused k)
+      → Matched n t before before (Err k)
   matched-refused k e =
       refused (λ z. at-refusal (λ m. m ≡ 0 → ⊥) (λ m s. omega arith) k (e ∙ z))
       (writes-refused k (match_refusal n t (length before)) [] before e)
 
-  module _ (none : match_refusal n t (length before) ≡ 0) (found : Found) (searched : Searched n t found) where
-    pub matched-none : found ≡ Nothing → Matched n t before before (Refused R4)
+  module _ (none : match_refusal n t (length before) ≡ 0) (found : Option Place) (searched : Searched n t found) where
+    pub matched-none : found ≡ None → Matched n t before before (Err NoMatch)
     matched-none e =
         unmatched none (no_block n t (well-formed n t (length before) none).within (rw e at searched))
-        (writes-refused R4 4 [] before refl)
+        (writes-refused NoMatch 4 [] before refl)
 
-    module _ (p : Place) (e : found ≡ At p) where
+    module _ (p : Place) (e : found ≡ Some p) where
       pub place-first : FirstPlace n t p
       place-first = rw e at searched
 
@@ -52,7 +49,7 @@ module _ (n : ℕ) (t before : List ℕ) where
           let w = pieces n p.f p.g p.direct place-first.wiring in
           (choice-small n p.f w.within w.f-choice, choice-small n p.g w.within w.g-choice, place-first.full)
 
-      pub matched-found : (x : Parts) (after : List ℕ) (r : Written)
+      pub matched-found : (x : Parts) (after : List ℕ) (r : Result ℕ Refusal)
           → block_of x ≡ block_with p.f p.g p.direct p.contents
           → Packs n (block_of x) before after r → Matched n t before after r
       matched-found x after r same packs =

@@ -1,5 +1,7 @@
 -- A function that depends on at most five of its variables is never answered with 4; so with at most
 -- five inputs none is. Assumes nothing.
+use Rattle.std.specs.Prelude.{Result}
+use Rattle.block.specs.declared.Refusal.{Refusal}
 use mathlib.Core.Path.{◌≡◌, sym, ◌∙◌}
 use mathlib.Core.Bool.{Bool, true, false, not}
 use mathlib.Core.List.{List, []}
@@ -8,7 +10,6 @@ use native.Mathlib.Omega.{arith}
 use lib.Dec.{eqb}
 use lib.ListN.{length}
 use Rattle.bits.specs.Tests.{pick, count}
-use Rattle.block.specs.declared.Written.{Written}
 use Rattle.block.specs.Table.{table_bytes, padding}
 use Rattle.block.specs.Refusal.{too_many_inputs}
 use Rattle.block.specs.Answer.{written_of}
@@ -34,7 +35,7 @@ head-other n t room =
     let two = pick_other (not (eqb (length t) (table_bytes n))) 2 _ (λ e. omega arith) three in
     pick_other (too_many_inputs n) 1 _ (λ e. omega arith) two
 
-module _ (n : ℕ) (t before after : List ℕ) (r : Written) where
+module _ (n : ℕ) (t before after : List ℕ) (r : Result ℕ Refusal) where
   pub five-never-4 : count (depends_on n t) n ≤ 5 → Matched n t before after r
       → (written_of r).number ≡ 4 → ⊥
   five-never-4 few (refused some w) e =

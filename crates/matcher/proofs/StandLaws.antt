@@ -1,27 +1,26 @@
 -- Where the search stands: nothing is found, and no wiring that it passed fits. Each step keeps this,
 -- and at its end it decides. Assumes nothing.
+use Rattle.std.specs.Prelude.{None, Option, Some}
 use mathlib.Core.Path.{◌≡◌, refl, sym, ◌∙◌}
 use mathlib.Core.Bool.{true, false, ◌||◌}
 use mathlib.Core.List.{List}
 use Prim.Native.Nat.{ℕ, ◌+◌, ◌<◌, ◌≤◌}
 use native.Mathlib.Omega.{arith}
 use lib.Dec.{eqb}
-use lib.ListN.{get_or}
+use lib.ListN.{length, get_or}
 use borrow.Author.Tests.{eqb-false}
 use Rattle.bits.specs.Bits.{has}
 use Rattle.bits.proofs.TestLaws.{either-false}
 use Rattle.bits.proofs.SearchLaws.{byBool}
 use Rattle.wiring.specs.Fits.{depends_on}
 use Rattle.filter.specs.Support.{support_of}
-use Rattle.filter.specs.Choices.{Listed, choices_of}
+use Rattle.filter.specs.Choices.{Listed, useful_of}
 use Rattle.filter.specs.Words.{words_of}
 use Rattle.filter.proofs.SupportLaws.{support-has}
 use Rattle.filter.proofs.ListedLaws.{listed}
-use Rattle.contents.specs.Contents.{is_choice, is_wiring, no_contents, LeastFilling}
+use Rattle.contents.specs.Contents.{is_choice, is_wiring, IsLeast}
 use Rattle.contents.proofs.ChoiceLaws.{is-choice, wiring-of}
 use Rattle.matcher.specs.declared.Place.{Place}
-use Rattle.matcher.specs.declared.Found.{Found}
-use Rattle.matcher.specs.declared.Found.TheVariants.{Nothing}
 use Rattle.matcher.specs.Search.{direct_of, directs, Uncovered, Weighable, FirstPlace, Searched}
 use Rattle.matcher.proofs.PlaceLaws.{place, NoneBefore, direct-fits}
 use Rattle.matcher.proofs.PlaceLaws.{none-start, none-next, none-pair, none-choices, none-set}
@@ -29,18 +28,18 @@ use Rattle.matcher.proofs.PlaceLaws.{none-exchanged, never-untried}
 use Rattle.matcher.proofs.WeighLaws.{never-fits, never-covered}
 use Rattle.matcher.proofs.WiringLaws.{first-wiring, no-wiring}
 
-pub record Standing (n : ℕ) (t : List ℕ) (within : ℕ) (sets : List ℕ) (many pins : ℕ) (found : Found)
+pub record Standing (n : ℕ) (t : List ℕ) (within : ℕ) (sets : List ℕ) (many pins : ℕ) (found : Option Place)
     (p : ℕ) : Type 0 where
   pub inputs : n ≤ 9
   pub support : within ≡ support_of n t
   pub choices : Listed n within sets many
   pub pins-are : pins ≡ directs n
-  pub nothing : found ≡ Nothing
+  pub nothing : found ≡ None
   pub passed : NoneBefore n t sets many p
 
 pub stand-start : (n : ℕ) (t : List ℕ) (within : ℕ) (sets : List ℕ) (many pins : ℕ) → n ≤ 9
-    → within ≡ support_of n t → sets ≡ (choices_of n within).sets → many ≡ (choices_of n within).many
-    → pins ≡ directs n → Standing n t within sets many pins Nothing (place 0 0 0)
+    → within ≡ support_of n t → sets ≡ useful_of n within → many ≡ length (useful_of n within)
+    → pins ≡ directs n → Standing n t within sets many pins None (place 0 0 0)
 stand-start n t within sets many pins inputs support same-sets same-many pins-are =
     let choices : Listed n within sets many = rw (same-sets, same-many) (listed n within inputs) in
     record {
@@ -52,7 +51,7 @@ stand-start n t within sets many pins inputs support same-sets same-many pins-ar
       passed = none-start n t sets many inputs choices.most;
     }
 
-module _ (n : ℕ) (t : List ℕ) (within : ℕ) (sets : List ℕ) (many pins : ℕ) (found : Found) where
+module _ (n : ℕ) (t : List ℕ) (within : ℕ) (sets : List ℕ) (many pins : ℕ) (found : Option Place) where
   abbrev Stands : ℕ → Type 0
   Stands p = Standing n t within sets many pins found p
 
@@ -111,15 +110,15 @@ module _ (n : ℕ) (t : List ℕ) (within : ℕ) (sets : List ℕ) (many pins : 
       (never-untried n t sets many s.inputs s.choices.most i j k li lj few s.passed other free))
 
   -- a wiring without contents
-  pub stand-next : (i j k x : ℕ) → i < many → j < many → k < pins → Stands (place i j k)
-      → LeastFilling n t (get_or sets i 0) (get_or sets j 0) (direct_of n k) x → no_contents ≤ x
+  pub stand-next : (i j k : ℕ) → i < many → j < many → k < pins → Stands (place i j k)
+      → IsLeast n t (get_or sets i 0) (get_or sets j 0) (direct_of n k) None
       → Stands (place i j (k + 1))
-  stand-next i j k x li lj lk s least l =
+  stand-next i j k li lj lk s none =
       let few = few i j k (place i j k) s li lj lk in
       moved (place i j k) (place i j (k + 1)) s
       (none-next n t sets many s.inputs s.choices.most i j k lj few s.passed
       (never-fits n t (get_or sets i 0) (get_or sets j 0) (direct_of n k)
-      (wiring-at i j k (place i j k) s li lj lk) x least l))
+      (wiring-at i j k (place i j k) s li lj lk) none))
 
   pub stand-pair : (i j k : ℕ) → j < many → pins ≤ k → Stands (place i j k) → Stands (place i (j + 1) 0)
   stand-pair i j k lj lk s =
@@ -147,15 +146,15 @@ module _ (n : ℕ) (t : List ℕ) (within : ℕ) (sets : List ℕ) (many pins : 
       (none-exchanged n t sets many s.inputs s.choices.most i l s.passed)
 
   pub stand-found : (i j k x : ℕ) → i < many → j < many → k < pins → Stands (place i j k)
-      → LeastFilling n t (get_or sets i 0) (get_or sets j 0) (direct_of n k) x → x < no_contents
+      → IsLeast n t (get_or sets i 0) (get_or sets j 0) (direct_of n k) (Some x)
       → (q : Place) → q.f ≡ get_or sets i 0 → q.g ≡ get_or sets j 0 → q.direct ≡ direct_of n k → q.contents ≡ x
       → FirstPlace n t q
-  stand-found i j k x li lj lk s least l q f g d c =
+  stand-found i j k x li lj lk s found q f g d c =
       let few = few i j k (place i j k) s li lj lk in
       record {
         wiring = rw (f, g, d) (wiring-at i j k (place i j k) s li lj lk);
-        full = rw c l;
-        least = rw (f, g, d, c) least;
+        full = rw c (found.small x refl);
+        least = rw (f, g, d, c) found.least;
         first =
             rw (f, g, d)
             (first-wiring n t s.inputs within sets many

@@ -1,5 +1,6 @@
 -- The tests of one wiring before it is weighed: each that fails shows that the wiring does not fit.
 -- Assumes nothing.
+use Rattle.std.specs.Prelude.{None, Option}
 use mathlib.Core.Path.{◌≡◌, sym, ◌∙◌}
 use mathlib.Core.Bool.{Bool, true, false, not, or-true}
 use mathlib.Core.List.{List}
@@ -23,7 +24,7 @@ use Rattle.filter.specs.Two.{two_of}
 use Rattle.filter.proofs.FitLaws.{two_fits}
 use Rattle.filter.proofs.OneLaws.{one-besides}
 use Rattle.filter.proofs.SupportLaws.{support-lt}
-use Rattle.contents.specs.Contents.{is_choice, no_contents, LeastFilling, Weighs}
+use Rattle.contents.specs.Contents.{is_choice, IsLeast, Weighs}
 use Rattle.contents.proofs.ChoiceLaws.{choice-lt, choice-small, Pieces, pieces}
 use Rattle.matcher.specs.Search.{direct_of, direct_set, Weighable, Uncovered}
 use Rattle.matcher.proofs.WeighLaws.{rejected, never-missed, other-has}
@@ -37,7 +38,7 @@ module _ (n : ℕ) (t : List ℕ) (within : ℕ) (words : List ℕ) (f g k : ℕ
   tests = pieces n f g d given.wiring
 
   abbrev none : Type 0
-  none = LeastFilling n t f g d no_contents
+  none = IsLeast n t f g d None
 
   -- a variable is missed
   pub rejects-missed : (direct : ℕ) (covered : Bool) → direct ≡ direct_set n k
@@ -81,8 +82,8 @@ module _ (n : ℕ) (t : List ℕ) (within : ℕ) (words : List ℕ) (f g k : ℕ
       three g f tests.g-choice (rw (← of-g, ← of-d, ← of-key, ← of-index, ← of_two) wrong)
       (fits-exchanged n t (has f) (has g) d fits))
 
-  pub weighs : (x : ℕ) → Weighs n t f g d x → LeastFilling n t f g d x
-  weighs x told = told.weighed given.wiring
+  pub weighs : (r : Option ℕ) → Weighs n t f g d r → IsLeast n t f g d r
+  weighs r told = told.weighed given.wiring
 
 -- two variables of `within` are in neither set
 pub uncovered : (within f g : ℕ) → one_at_most (rest_of within (bit_or f g)) ≡ false → Uncovered within f g

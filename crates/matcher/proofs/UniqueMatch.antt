@@ -1,5 +1,7 @@
 -- Two results that the matcher's promise allows are equal: the number, the length in use and every
 -- byte of the buffer. Assumes nothing.
+use Rattle.std.specs.Prelude.{Result}
+use Rattle.block.specs.declared.Refusal.{Refusal}
 use mathlib.Core.Path.{◌≡◌, refl, sym, ap₂, ◌∙◌}
 use mathlib.Core.Bool.{false, ◌&&◌}
 use mathlib.Core.List.{List, [], ◌∷◌}
@@ -10,7 +12,6 @@ use lib.Dec.{eqb, ltb}
 use lib.ListN.{length}
 use borrow.Author.Tests.{ltb-false, eq-eqb}
 use Rattle.bits.proofs.TestLaws.{either-false}
-use Rattle.block.specs.declared.Written.{Written}
 use Rattle.block.specs.Block.{Block}
 use Rattle.block.proofs.AnswerLaws.{written-unique}
 use Rattle.codec.specs.Ten.{ten_zeros, pack_of}
@@ -55,7 +56,7 @@ module _ (n : ℕ) (t : List ℕ) (room : ℕ) (none : match_refusal n t room �
       (q.none_before b p.matches) (p.none_before c q.matches)
 
 -- the promise leaves one answer
-pub match-unique : (n : ℕ) (t before after after' : List ℕ) (r q : Written)
+pub match-unique : (n : ℕ) (t before after after' : List ℕ) (r q : Result ℕ Refusal)
     → Matched n t before after r → Matched n t before after' q → (r ≡ q) × (after ≡ after')
 match-unique n t before after after' r q (refused some w) (refused some' w') =
     written-unique (match_refusal n t (length before)) [] before after after' r q w w'
@@ -74,7 +75,7 @@ match-unique n t before after after' r q (matched none b p w) (matched none' c p
     written-unique 0 (pack_of b) before after after' r q w (rw same w')
 
 -- and what is made of it is one
-pub single-unique : (n : ℕ) (t : List ℕ) (of : List ℕ → Written → List ℕ) (a b : List ℕ)
+pub single-unique : (n : ℕ) (t : List ℕ) (of : List ℕ → Result ℕ Refusal → List ℕ) (a b : List ℕ)
     → Single n t of a → Single n t of b → a ≡ b
 single-unique n t of a b s s' =
     let same =

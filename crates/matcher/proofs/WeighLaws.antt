@@ -1,5 +1,6 @@
 -- A wiring that does not fit has no contents, and one without contents does not fit. The tests that
 -- only reject. Assumes nothing.
+use Rattle.std.specs.Prelude.{None}
 use mathlib.Core.Path.{◌≡◌, sym, ap, ap₂, ◌∙◌}
 use mathlib.Core.Bool.{Bool, true, ◌||◌, or_assoc}
 use mathlib.Core.List.{List}
@@ -20,9 +21,9 @@ use Rattle.wiring.proofs.FitsLaws.{fits-of-block, fits-ext, fits-covers}
 use Rattle.wiring.proofs.FillLaws.{block-of-fits, filled-quiet}
 use Rattle.filter.specs.Support.{support_of}
 use Rattle.filter.proofs.SupportLaws.{support-lt, support-on}
-use Rattle.contents.specs.Contents.{is_wiring, wiring_of, block_with, no_contents, LeastFilling}
+use Rattle.contents.specs.Contents.{is_wiring, wiring_of, block_with, no_contents, IsLeast}
 use Rattle.contents.proofs.ChoiceLaws.{f-carries, g-carries, wired}
-use Rattle.contents.proofs.LeastLaws.{block_with_lem, none-fill}
+use Rattle.contents.proofs.LeastLaws.{block_with_lem, none-fill, is-least-none}
 use Rattle.matcher.specs.Search.{direct_of, direct_set, directs, Uncovered}
 use Rattle.matcher.proofs.NumberLaws.{tables_number}
 use Rattle.matcher.proofs.FirstLaws.{block-fields}
@@ -30,18 +31,19 @@ use Rattle.matcher.proofs.PlaceLaws.{direct-fits}
 
 module _ (n : ℕ) (t : List ℕ) (f g d : ℕ) (w : is_wiring n f g d ≡ true) where
   -- without a fit there are no contents
-  pub rejected : (Fits n t (has f) (has g) d → ⊥) → LeastFilling n t f g d no_contents
+  pub rejected : (Fits n t (has f) (has g) d → ⊥) → IsLeast n t f g d None
   rejected never =
-      none-fill n t f g d
+      is-least-none n t f g d
+      (none-fill n t f g d
       (λ y fills.
       never
       (fits-ext n t (carries (pins_of_mask f)) (carries (pins_of_mask g)) (has f) (has g) d
       (f-carries n f g d w) (g-carries n f g d w)
-      (fits-of-block n t (block_with f g d y) (block-fields n f g d w y) fills.computes)))
+      (fits-of-block n t (block_with f g d y) (block-fields n f g d w y) fills.computes))))
 
   -- without contents there is no fit
-  pub never-fits : (x : ℕ) → LeastFilling n t f g d x → no_contents ≤ x → Fits n t (has f) (has g) d → ⊥
-  never-fits x least l fits =
+  pub never-fits : IsLeast n t f g d None → Fits n t (has f) (has g) d → ⊥
+  never-fits none fits =
       let sees =
       fits-ext n t (has f) (has g) (carries (pins_of_mask f)) (carries (pins_of_mask g)) d
       (λ v m. sym (f-carries n f g d w v m)) (λ v m. sym (g-carries n f g d w v m)) fits in
@@ -54,7 +56,7 @@ module _ (n : ℕ) (t : List ℕ) (f g d : ℕ) (w : is_wiring n f g d ≡ true)
       let small : y < no_contents = omega arith in
       let same = block_with_lem made.f made.g made.h lg lh f g d in
       let most =
-      least.least y
+      none.least.least y
       (record {
         small = small;
         quiet = ap rows_quiet same ∙ filled-quiet n t (wiring_of f g d) pins made;

@@ -1,7 +1,7 @@
 -- Which match is returned (document 01). Wirings and the way they are searched are not here.
 -- Assumes nothing.
-use Rattle.std.specs.Prelude.{ℕ, ◌≡◌, true, false, List, [], ◌∷◌, ◌++◌, length}
-use Rattle.block.specs.declared.Written.{Written}
+use Rattle.std.specs.Prelude.{ℕ, ◌≡◌, true, false, List, [], ◌∷◌, ◌++◌, length, Result}
+use Rattle.block.specs.declared.Refusal.{Refusal}
 use Rattle.block.specs.Block.{Block, Device}
 use Rattle.block.specs.Value.{Computes}
 use Rattle.block.specs.Tidy.{Tidy, fields_fit}
@@ -39,7 +39,7 @@ match_refusal n t room = first_of (table_cases n t ++ (5 when no_room room ∷ [
 
 -- What matching promises. With a table of n inputs and room for ten bytes, 4 is given exactly when no
 -- block realises the table; otherwise the ten bytes of the first are written.
-pub data Matched (n : ℕ) (t before after : List ℕ) (r : Written) : Type 0 where
+pub data Matched (n : ℕ) (t before after : List ℕ) (r : Result ℕ Refusal) : Type 0 where
   -- 1, 2, 3 or 5: its number, no byte changed
   refused : (match_refusal n t (length before) ≡ 0 → ⊥)
       → Writes (match_refusal n t (length before)) [] before after r → Matched n t before after r

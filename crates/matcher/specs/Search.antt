@@ -1,17 +1,23 @@
 -- What the matcher's inner functions promise each other. The matcher's own promise is in Match and
 -- does not use this. Assumes nothing.
-use Rattle.std.specs.Prelude.{ℕ, ◌+◌, ◌*◌, ◌^◌, ◌<◌, ◌≤◌, ◌≡◌, true, false, List, eqb}
+use Rattle.std.specs.Prelude.{ℕ, ◌+◌, ◌*◌, ◌^◌, ◌<◌, ◌≤◌, ◌≡◌, true, false, List, eqb, None, Option, Some, Result, Ok, Err}
 use Rattle.bits.specs.Bits.{has}
 use Rattle.bits.specs.Tests.{pick}
+use Rattle.block.specs.declared.Inputs.{Inputs}
+use Rattle.block.specs.declared.Refusal.{Refusal}
 use Rattle.block.specs.Block.{Lut, open_field}
+use Rattle.block.specs.Refusal.{number_of}
 use Rattle.subsets.specs.Masks.{key_of}
 use Rattle.wiring.specs.Fits.{Fits}
 use Rattle.filter.specs.Support.{support_of}
 use Rattle.filter.specs.Words.{words_of}
 use Rattle.contents.specs.Contents.{is_wiring, no_contents, LeastFilling}
 use Rattle.matcher.specs.declared.Place.{Place}
-use Rattle.matcher.specs.declared.Found.{Found}
-use Rattle.matcher.specs.declared.Found.TheVariants.{At, Nothing}
+
+-- the number of the refusal that the head gives, 0 for none
+abbrev pub head_of : Result Inputs Refusal → ℕ
+head_of (Ok _) = 0
+head_of (Err k) = number_of k
 
 -- the direct pin's field of choice k: without inputs the pin is open
 abbrev pub direct_of : (n k : ℕ) → ℕ
@@ -65,6 +71,6 @@ pub record FirstPlace (n : ℕ) (t : List ℕ) (p : Place) : Type 0 where
   pub first : FirstWiring n t p.f p.g p.direct
 
 -- what the search finds
-abbrev pub Searched : (n : ℕ) (t : List ℕ) (r : Found) → Type 0
-Searched n t (At p) = FirstPlace n t p
-Searched n t Nothing = NoWiring n t
+abbrev pub Searched : (n : ℕ) (t : List ℕ) (r : Option Place) → Type 0
+Searched n t (Some p) = FirstPlace n t p
+Searched n t None = NoWiring n t

@@ -2,20 +2,18 @@
 
 #![tactic(auto)]
 
-ghost use Rattle.std.specs.Prelude.{◌≡◌, true, ◌||◌, ◌<◌, ◌≤◌, ◌-◌, ◌%◌, ◌^◌, eqb, length};
+ghost use Rattle.std.specs.Prelude.{◌≡◌, true, ◌||◌, ◌<◌, ◌≤◌, ◌-◌, ◌%◌, ◌^◌, eqb, length, IfOk};
 ghost use Rattle.std.specs.Int.Bits.{bit_and, bit_or};
 ghost use Rattle.bits.specs.Bits.{has};
 ghost use Rattle.block.specs.Table.{table_rows};
 ghost use Rattle.block.specs.Code.{lut_of, block_of};
 ghost use Rattle.subsets.specs.Masks.{pins_of_mask, Small};
-ghost use Rattle.codec.specs.Answers.{checked_of};
-ghost use Rattle.contents.specs.Contents.{no_contents, block_with, LeastFilling};
+ghost use Rattle.contents.specs.Contents.{no_contents, block_with, IsLeast};
 ghost use Rattle.matcher.specs.Match.{match_refusal, Matched};
-ghost use Rattle.matcher.specs.Search.{direct_of, direct_set, directs, lut_on, Uncovered, Weighable, Searched};
+ghost use Rattle.matcher.specs.Search.{head_of, direct_of, direct_set, directs, lut_on};
+ghost use Rattle.matcher.specs.Search.{Uncovered, Weighable, Searched};
 
-use block::{BLOCK_BYTES, FourPin, MOST_INPUTS, OPEN, Parts, Refusal, Written};
-use codec::Checked;
-use contents::NONE;
+use block::{BLOCK_BYTES, FourPin, Inputs, OPEN, Parts, Refusal};
 
 // The sets of F and of G, the direct pin's field, and the contents.
 #[derive(Clone, Copy)]
@@ -26,45 +24,34 @@ struct Place {
     contents: u64,
 }
 
-#[derive(Clone, Copy)]
-enum Found {
-    At(Place),
-    Nothing,
-}
-
 // The bits of a table's first byte that are no rows.
 fn padding(n: u8, first: u8) -> u8
     ensures { result ≡ first % 2 ^ (8 - table_rows n) }
 {
-    if n == 0 {
-        return first % 128;
+    match n {
+        0 => first % 128,
+        1 => first % 64,
+        2 => first % 16,
+        _ => 0,
     }
-    if n == 1 {
-        return first % 64;
-    }
-    if n == 2 {
-        return first % 16;
-    }
-    0
 }
 
-// The refusals 1, 2, 3, 5.
-fn head(n: u8, t: &[u8], room: usize) -> Checked
-    ensures { checked_of result ≡ match_refusal n t.now room }
+// The refusals 1, 2, 3, 5; where there is none, the number of inputs.
+fn head(n: u8, t: &[u8], room: usize) -> Result<Inputs, Refusal>
+    ensures refusal { head_of result ≡ match_refusal n t.now room }
+    ensures number { IfOk result (λ inputs. inputs.n ≡ n) }
 {
-    if MOST_INPUTS < n {
-        return Checked::Refused(Refusal::R1);
-    }
+    let inputs = Inputs::new(n)?;
     if t.len() != block::table_bytes(n) {
-        return Checked::Refused(Refusal::R2);
+        return Err(Refusal::WrongLength);
     }
     if padding(n, t[0]) != 0 {
-        return Checked::Refused(Refusal::R3);
+        return Err(Refusal::PaddingSet);
     }
     if room < BLOCK_BYTES {
-        return Checked::Refused(Refusal::R5);
+        return Err(Refusal::NoRoom);
     }
-    Checked::Fine
+    Ok(inputs)
 }
 
 fn directs(n: u8) -> u8
@@ -119,41 +106,38 @@ fn covers(within: u16, f: u16, g: u16, direct: u16) -> bool
 }
 
 // The least contents on one wiring. The tests before the last line only reject.
-fn weigh(n: u8, t: &[u8], within: u16, words: &[u32; 16], f: u16, g: u16, k: u8) -> u64
+fn weigh(n: u8, t: &[u8], within: u16, words: &[u32; 16], f: u16, g: u16, k: u8) -> Option<u64>
     requires { Weighable n t.now within words.now f g k }
-    ensures { LeastFilling n t.now f g (direct_of n k) result }
+    ensures { IsLeast n t.now f g (direct_of n k) result }
 {
     let direct = direct_set(n, k);
     if !covers(within, f, g, direct) {
-        return NONE;
+        return None;
     }
     if !filter::two(words, rows::select(rows::key_of(f), g | direct)) {
-        return NONE;
+        return None;
     }
     let others = filter::words(t, within, g);
     if !filter::two(&others, rows::select(rows::key_of(g), f | direct)) {
-        return NONE;
+        return None;
     }
     contents::least(n, t, f, g, direct_of(n, k))
 }
 
-// The first wiring that can hold the table, with its least contents. Sets that an earlier one serves
+// The first wiring that can hold the table, with its least contents. Three loops and a label, as document 01 has it. Sets that an earlier one serves
 // for are not in the list; F and G exchanged fit as well, so G's set begins at F's.
-fn search(n: u8, t: &[u8]) -> Found
-    requires { n ≤ 9 }
-    ensures { Searched n t.now result }
+fn search(inputs: Inputs, t: &[u8]) -> Option<Place>
+    ensures { Searched inputs.n t.now result }
 {
+    let n = inputs.number();
     let within = filter::support(n, t);
     let choices = filter::useful(n, within);
-    let sets = choices.sets;
-    let many = choices.many;
+    let sets = choices.sets();
     let pins = directs(n);
-    let mut found = Found::Nothing;
-    'search: for i in 0u16..many {
-        let f = sets[i as usize];
+    let mut found = None;
+    'search: for (i, &f) in sets.iter().enumerate() {
         let words = filter::words(t, within, f);
-        for j in i..many {
-            let g = sets[j as usize];
+        for &g in &sets[i..] {
             if hopeless(within, f, g) {
                 continue;
             }
@@ -161,9 +145,8 @@ fn search(n: u8, t: &[u8]) -> Found
                 if !is_tried(within, k) {
                     continue;
                 }
-                let contents = weigh(n, t, within, &words, f, g, k);
-                if contents < NONE {
-                    found = Found::At(Place {
+                if let Some(contents) = weigh(n, t, within, &words, f, g, k) {
+                    found = Some(Place {
                         f,
                         g,
                         direct: direct_of(n, k),
@@ -177,7 +160,7 @@ fn search(n: u8, t: &[u8]) -> Found
     found
 }
 
-// The four pins of a set, with their rows.
+// The four pins of a set, with their rows; their fields stand in a key.
 fn four_pin(set: u16, rows: u16) -> FourPin
     requires { Small set }
     ensures { lut_of result ≡ lut_on (pins_of_mask set) rows }
@@ -197,35 +180,21 @@ fn parts_of(p: Place) -> Parts
     ensures { block_of result ≡ block_with p.f p.g p.direct p.contents }
 {
     let x = p.contents;
-    let f = four_pin(p.f, (x / 16777216 % 65536) as u16);
-    let g = four_pin(p.g, (x / 256 % 65536) as u16);
     Parts {
-        f,
-        g,
+        f: four_pin(p.f, (x / 16777216 % 65536) as u16),
+        g: four_pin(p.g, (x / 256 % 65536) as u16),
         direct: p.direct,
         h: (x % 256) as u8,
     }
 }
 
-// The ten bytes of the first block, where the table is well formed and there is room.
-fn write_first(n: u8, t: &[u8], out: &mut [u8]) -> Written
-    requires { match_refusal n t.now (length out.old) ≡ 0 }
-    ensures { Matched n t.now out.old out.new result }
-{
-    let found = search(n, t);
-    match found {
-        Found::Nothing => Written::Refused(Refusal::R4),
-        Found::At(p) => codec::pack(n, parts_of(p), out),
-    }
-}
-
 // A table of n inputs: the ten bytes of the first tidy block that computes it.
-pub fn first_match(n: u8, t: &[u8], out: &mut [u8]) -> Written
+pub fn first_match(n: u8, t: &[u8], out: &mut [u8]) -> Result<usize, Refusal>
     ensures { Matched n t.now out.old out.new result }
 {
-    let checked = head(n, t, out.len());
-    match checked {
-        Checked::Refused(k) => Written::Refused(k),
-        Checked::Fine => write_first(n, t, out),
+    let inputs = head(n, t, out.len())?;
+    match search(inputs, t) {
+        Some(place) => codec::pack(n, parts_of(place), out),
+        None => Err(Refusal::NoMatch),
     }
 }

@@ -1,45 +1,36 @@
 -- A record's refusal, test by test, and number pairs, number by number. Assumes nothing.
-use mathlib.Core.Path.{◌≡◌, refl, ap, ◌∙◌}
-use mathlib.Core.Bool.{Bool, true, false, ◌&&◌, ◌||◌, and-true}
+use Rattle.std.specs.Prelude.{Result, Option}
+use Rattle.block.specs.declared.Refusal.{Refusal}
+use Rattle.record.specs.declared.Refused.{Refused}
+use Rattle.block.specs.declared.Parts.{Parts}
+use mathlib.Core.Path.{◌≡◌, refl, sym, ap, ◌∙◌}
+use mathlib.Core.Bool.{true, false}
 use mathlib.Core.List.{List, []}
 use Prim.Native.Nat.{ℕ, zero, suc}
 use native.Mathlib.Omega.{arith}
-use lib.Dec.{eqb, ltb}
 use lib.ListN.{length, drop}
 use borrow.Author.Tests.{lt-ltb, not-false}
-use Rattle.bits.specs.Tests.{alike}
 use Rattle.block.specs.Block.{Block}
 use Rattle.block.specs.Code.{zero_block}
 use Rattle.block.specs.Answer.{Answer}
 use Rattle.block.proofs.RefusalLaws.{pick-zero}
 use Rattle.block.proofs.AnswerLaws.{answered-number}
-use Rattle.codec.specs.declared.Unpacked.{Unpacked}
 use Rattle.codec.specs.Ten.{block_bytes, unpack_of}
 use Rattle.codec.specs.Order.{before}
-use Rattle.codec.specs.Check.{check_refusal}
+use Rattle.codec.specs.Check.{check_refusal, check_cases}
+use Rattle.block.specs.Refusal.{first_of}
 use Rattle.codec.specs.Answers.{unpacked_of, unpack_answer, Unpacks}
 use Rattle.codec.proofs.CheckLaws.{accepted-of-none}
 use Rattle.record.specs.declared.Numbers.{Numbers}
-use Rattle.record.specs.declared.Told.{Told}
+use Rattle.record.specs.declared.Pair.{Pair}
 use Rattle.record.specs.Record.{Record, header_bytes, record_of, record_with, pair_of, key_of}
 use Rattle.record.specs.Fault.{unassigned, not_above, record_refusal}
 use Rattle.record.specs.Answers.{Numbered, Judges}
-use Rattle.record.proofs.ToldLaws.{told-unique}
+use Rattle.record.proofs.ToldLaws.{same-judged}
 
-module _ (last : List ℕ) (r : Record) where
-  pub refuses-10 : true ≡ unassigned r.craft r.block → 10 ≡ record_refusal last r
-  unfolding record_refusal
-  refuses-10 e = rw (← e)
-
-  module _ (assigned : false ≡ unassigned r.craft r.block) where
-    pub refuses-11 : false ≡ before last (key_of r) → 11 ≡ record_refusal last r
-    unfolding record_refusal
-    refuses-11 e = rw (← assigned, ← e)
-
-    -- the block decides
-    pub leaves-block : true ≡ before last (key_of r) → check_refusal r.n r.ten ≡ record_refusal last r
-    unfolding record_refusal check_refusal
-    leaves-block e = rw (← assigned, ← e)
+pub refuses-10 : (last : List ℕ) (r : Record) → true ≡ unassigned r.craft r.block → 10 ≡ record_refusal last r
+unfolding record_refusal
+refuses-10 last r e = rw (← e)
 
 -- a record that is not refused has none of the faults
 pub accepted-parts : (last : List ℕ) (r : Record) → record_refusal last r ≡ 0
@@ -65,23 +56,11 @@ none_before r = at-craft r.craft refl
     at-craft (suc craft) e = rw (e, lt-ltb 0 (suc craft) (omega arith))
 
 -- unpacking is refused as checking is
-pub unpacked-number : (n : ℕ) (ten : List ℕ) (u : Unpacked) → Unpacks n ten u
-    → (unpacked_of u).number ≡ check_refusal n ten
-unfolding unpack_answer
-unpacked-number n ten u e =
+pub unpacked_number : (n : ℕ) (ten : List ℕ) (u : Result Parts Refusal) → Unpacks n ten u
+    → (unpacked_of u).number ≡ first_of (check_cases n ten)
+unfolding unpack_answer check_refusal
+unpacked_number n ten u e =
     ap (λ (a : Answer Block). a.number) e ∙ answered-number (check_refusal n ten) zero_block (unpack_of ten)
-
--- the order of two pairs, number by number
-pub pair-before : (a b c d : ℕ) → ltb a c || (eqb a c && ltb b d) ≡ before (pair_of a b) (pair_of c d)
-pair-before a b c d = rw (alone (ltb b d) (eqb b d))
-  where
-    alone : (x y : Bool) → x || (y && false) ≡ x
-    alone true y = refl
-    alone false true = refl
-    alone false false = refl
-
-pub pair-alike : (a b c d : ℕ) → eqb a c && eqb b d ≡ alike (pair_of a b) (pair_of c d)
-pair-alike a b c d = rw (and-true (eqb b d))
 
 -- the numbers and the ten bytes behind them make the record
 pub numbered-record : (s : List ℕ) (x : Numbers) → Numbered s x
@@ -90,6 +69,6 @@ unfolding record_of
 numbered-record s x e = rw e
 
 -- one answer
-pub judges-unique : (last x : Numbers) (ten : List ℕ) (place : ℕ) (r q : Told)
+pub judges-unique : (last : Option Pair) (x : Numbers) (ten : List ℕ) (place : ℕ) (r q : Result (Unit {0}) Refused)
     → Judges last x ten place r → Judges last x ten place q → r ≡ q
-judges-unique last x ten place r q = told-unique r q _
+judges-unique last x ten place r q e e' = same-judged r q (e ∙ sym e')

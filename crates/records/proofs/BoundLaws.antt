@@ -1,5 +1,7 @@
 -- How far a sheet's places and its number of records go, and what an accepted one is. Assumes
 -- nothing.
+use Rattle.std.specs.Prelude.{Ok, Result}
+use Rattle.record.specs.declared.Refused.{Refused}
 use mathlib.Core.Path.{◌≡◌}
 use mathlib.Core.Bool.{Bool, true, false, not, or-true}
 use mathlib.Core.List.{List, [], ◌∷◌}
@@ -13,8 +15,6 @@ use Rattle.bits.specs.Tests.{pick}
 use Rattle.bits.proofs.TestLaws.{either-false}
 use Rattle.block.specs.Refusal.{◌when◌}
 use Rattle.block.proofs.RefusalLaws.{pick-zero}
-use Rattle.record.specs.declared.Told.{Told}
-use Rattle.record.specs.declared.Told.TheVariants.{Value}
 use Rattle.record.specs.Record.{Record, record_bytes, key_of}
 use Rattle.record.specs.Fault.{Fault, record_refusal, fault, at, whole, ◌then◌}
 use Rattle.record.proofs.ToldLaws.{then-cases, then-zero, value-told, told-unique}
@@ -95,9 +95,9 @@ accepted-of s right none =
     rw (eq-eqb (len % record_bytes) 0 right.multiple, le-ltb sheet_bytes len right.most) none
 
 -- a sheet that was counted has no fault, and the count is that of its records
-pub counted : (s : List ℕ) (t : Told) (count : ℕ) → t ≡ Value count → Counts s t
+pub counted : (s : List ℕ) (count : ℕ) → Counts s (Ok count)
     → ((sheet_fault s).number ≡ 0) × (count ≡ length (records_of s))
-counted s t count is e = value-told t count (sheet_fault s) (length (records_of s)) is e
+counted s count e = value-told count (sheet_fault s) (length (records_of s)) e
 
 -- a sheet that is too long is refused with 2, whatever its bytes are
 pub long-refused : (s : List ℕ) → sheet_bytes < length s → sheet_fault s ≡ fault 2 0
@@ -105,5 +105,5 @@ unfolding sheet_fault
 long-refused s long =
     rw (lt-ltb sheet_bytes (length s) long, or-true (not (eqb (length s % record_bytes) 0)))
 
-pub counts-unique : (s : List ℕ) (r q : Told) → Counts s r → Counts s q → r ≡ q
+pub counts-unique : (s : List ℕ) (r q : Result ℕ Refused) → Counts s r → Counts s q → r ≡ q
 counts-unique s r q = told-unique r q _

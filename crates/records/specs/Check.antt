@@ -1,9 +1,10 @@
 -- Which refusal a sheet gets, with its place, and what checking it answers. Assumes nothing.
-use Rattle.std.specs.Prelude.{ℕ, suc, ◌%◌, ◌≡◌, Bool, not, ◌||◌, List, [], ◌∷◌, eqb, ltb, length}
+use Rattle.std.specs.Prelude.{ℕ, suc, ◌%◌, ◌≡◌, Bool, not, ◌||◌, List, [], ◌∷◌, eqb, ltb, length, Result, Some}
+use Rattle.record.specs.declared.Refused.{Refused}
+use Rattle.record.specs.declared.Pair.{Pair}
 use Rattle.block.specs.Refusal.{◌when◌}
 use Rattle.block.specs.Answer.{Answer}
-use Rattle.record.specs.declared.Told.{Told}
-use Rattle.record.specs.Record.{Record, record_bytes, key_of}
+use Rattle.record.specs.Record.{Record, record_bytes, key_of, key_before}
 use Rattle.record.specs.Fault.{record_refusal, Fault, fine, at, whole, ◌then◌}
 use Rattle.record.specs.Told.{Placed, told, told_of}
 use Rattle.records.specs.Sheet.{sheet_bytes, records_of}
@@ -11,6 +12,11 @@ use Rattle.records.specs.Sheet.{sheet_bytes, records_of}
 -- 2: a sheet is not a multiple of 14, or above 65,534
 abbrev pub wrong_length : (len : ℕ) → Bool
 wrong_length len = not (eqb (len % record_bytes) 0) || ltb sheet_bytes len
+
+-- a record that may stand after the pair `last` has no fault there, and this pair
+pub record Follows (last : List ℕ) (r : Record) (x : Pair) : Type 0 where
+  pub none : record_refusal last r ≡ 0
+  pub pair : key_before (Some x) ≡ key_of r
 
 -- record by record, the first after the pair `last` standing at the place
 unfoldable pub first_fault : (last : List ℕ) (place : ℕ) (rs : List Record) → Fault
@@ -27,5 +33,5 @@ abbrev pub sheet_answer : List ℕ → Answer (Placed ℕ)
 sheet_answer s = told (sheet_fault s) 0 (length (records_of s))
 
 -- what checking a sheet promises
-abbrev pub Counts : (s : List ℕ) (r : Told) → Type 0
+abbrev pub Counts : (s : List ℕ) (r : Result ℕ Refused) → Type 0
 Counts s r = told_of r ≡ sheet_answer s

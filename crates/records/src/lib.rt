@@ -2,11 +2,14 @@
 
 #![tactic(auto)]
 
-ghost use Rattle.std.specs.Prelude.{◌≡◌};
-ghost use Rattle.records.specs.Check.{wrong_length, Counts};
+ghost use Rattle.std.specs.Prelude.{◌≡◌, length, IfOk, IfErr};
+ghost use Rattle.record.specs.Record.{record_bytes, record_of, key_before};
+ghost use Rattle.record.specs.Fault.{record_refusal, at};
+ghost use Rattle.record.specs.Told.{fault_of};
+ghost use Rattle.records.specs.Check.{wrong_length, Follows, Counts};
 
 use block::Refusal;
-use record::{HEADER_BYTES, Numbers, RECORD_BYTES, Told};
+use record::{HEADER_BYTES, Pair, RECORD_BYTES, Refused};
 
 // The most records of a sheet, and their bytes.
 pub const MOST_RECORDS: usize = 4681;
@@ -19,28 +22,28 @@ fn is_wrong(len: usize) -> bool
     (len % RECORD_BYTES != 0) | (SHEET_BYTES < len)
 }
 
+// A record of 14 bytes at its place, judged after the last one's pair: its own pair.
+fn judged(last: Option<Pair>, bytes: &[u8], place: usize) -> Result<Pair, Refused>
+    requires { length bytes.now ≡ record_bytes }
+    ensures ok { IfOk result (Follows (key_before last) (record_of bytes.now)) }
+    ensures err { IfErr result (λ r. fault_of r ≡ at (record_refusal (key_before last) (record_of bytes.now)) place) }
+{
+    let x = record::numbers_of(bytes);
+    let (_, ten) = bytes.split_at(HEADER_BYTES);
+    record::judge(last, x, ten, place)?;
+    Ok(x.pair())
+}
+
 // The number of records, or the first refusal with the place of its record.
-pub fn check(s: &[u8]) -> Told
+pub fn check(s: &[u8]) -> Result<usize, Refused>
     ensures { Counts s.now result }
 {
     if is_wrong(s.len()) {
-        return Told::Refused(Refusal::R2, 0);
+        return Err(Refusal::WrongLength.into());
     }
-    let count = s.len() / RECORD_BYTES;
-    // Every assigned pair is above 0, 0.
-    let mut last = Numbers {
-        craft: 0,
-        block: 0,
-        n: 0,
-    };
-    for p in 0..count {
-        let a = p * RECORD_BYTES;
-        let x = record::numbers_of(&s[a..a + RECORD_BYTES]);
-        let judged = record::judge(last, x, &s[a + HEADER_BYTES..a + RECORD_BYTES], p);
-        let Told::Value(_) = judged else {
-            return judged;
-        };
-        last = x;
+    let mut last = None;
+    for (place, bytes) in s.chunks_exact(RECORD_BYTES).enumerate() {
+        last = Some(judged(last, bytes, place)?);
     }
-    Told::Value(count)
+    Ok(s.len() / RECORD_BYTES)
 }

@@ -1,92 +1,77 @@
 -- Counting the requests: those that are counted and those still to come are all. Assumes nothing.
+use Rattle.std.specs.Option.{ok_or}
+use Rattle.std.specs.Prelude.{Option, Some, None, Err, Ok, Result}
+use Rattle.std.proofs.lemmas.List.{nil_from_length}
 use mathlib.Core.Path.{◌≡◌, refl, sym, ap, ◌∙◌}
-use mathlib.Core.Bool.{Bool, true, false}
-use mathlib.Core.List.{List}
-use Prim.Native.Nat.{ℕ, suc, ◌+◌, ◌*◌, ◌/◌, ◌<◌, ◌≤◌}
-use native.Mathlib.Nat.{mul_comm, div-lt_iff_lt-mul}
+use mathlib.Core.Bool.{true, false}
+use mathlib.Core.List.{List, []}
+use Prim.Native.Nat.{ℕ, zero, suc, ◌+◌, ◌*◌, ◌<◌, ◌≤◌}
 use native.Mathlib.Omega.{arith}
-use lib.Dec.{ltb}
-use lib.ListN.{length, drop, length-drop, drop_of_length-le}
-use lib.Seq.{drop-drop}
-use borrow.Author.Tests.{ltb-true, ltb-false, lt-ltb, le-ltb}
+use lib.Dec.{eqb}
+use lib.ListN.{length, drop, length-drop}
+use borrow.Author.Tests.{ltb-false, le-ltb}
 use Rattle.bits.specs.Tests.{pick}
-use Rattle.bits.proofs.SearchLaws.{byBool}
-use Rattle.bits.proofs.TestLaws.{same_test}
+use Rattle.bits.proofs.SearchLaws.{byBool, clash}
 use Rattle.block.proofs.RefusalLaws.{pick-zero, number-injective}
 use Rattle.block.specs.declared.Refusal.{Refusal}
-use Rattle.block.specs.declared.Refusal.TheVariants.{R5, R14}
-use Rattle.block.specs.Refusal.{number_of}
-use Rattle.block.specs.Answer.{Answer, answered}
-use Rattle.block.proofs.AnswerLaws.{answered-refused, answered-parts, answered-number, never-refused}
-use Rattle.requests.specs.declared.Counted.{Counted}
-use Rattle.requests.specs.declared.Counted.TheVariants.{Many, Refused}
-use Rattle.requests.specs.declared.Walked.{Walked}
+use Rattle.block.specs.declared.Refusal.TheVariants.{NoRoom, BrokenBuild}
+use Rattle.block.specs.Answer.{Answer}
+use Rattle.block.proofs.AnswerLaws.{answered-parts, never-refused}
 use Rattle.requests.specs.Requests.{Request, requests_of, broken, first_bytes}
 use Rattle.requests.specs.Requests.{whole_refusal, lacks_room, build_refusal}
 use Rattle.requests.specs.Counting.{Walks, counted_of, Counts, Accepted}
-use Rattle.requests.proofs.RequestLaws.{led, first-broken, requests-none, broken-none, requests-few}
+use Rattle.requests.proofs.RequestLaws.{Led, first-broken, requests-none, broken-none}
 
-pub record CountedTo (s : List ℕ) (many at : ℕ) : Type 0 where
-  pub within : at ≤ length s
-  pub all : length (requests_of s) ≡ many + length (requests_of (drop at s))
-  pub others : broken s ≡ broken (drop at s)
+-- the two answers
+ok_err : {x : ℕ} {k : Refusal} → ◌≡◌ {A = Result ℕ Refusal} (Ok x) (Err k) → ⊥
+ok_err e = cc
 
-pub counted_start : (s : List ℕ) → CountedTo s 0 0
-counted_start s = record { within = omega arith; all = omega arith; others = refl }
+same_ok : {x y : ℕ} → ◌≡◌ {A = Result ℕ Refusal} (Ok x) (Ok y) → x ≡ y
+same_ok e = cc
 
-module _ (s : List ℕ) (many at : ℕ) (d : CountedTo s many at) where
-  pub counted-broken : at < length s → first_bytes (drop at s) ≡ 0 → broken s ≡ true
-  counted-broken l none =
-      d.others ∙ first-broken (drop at s) (omega (arith, length-drop at s)) none
+same_err : {k m : Refusal} → ◌≡◌ {A = Result ℕ Refusal} (Err k) (Err m) → k ≡ m
+same_err e = cc
 
-  pub counted-end : length s ≤ at → (broken s ≡ false) × (length (requests_of s) ≡ many)
+-- so many requests are counted, and these bytes are left
+pub record CountedTo (s : List ℕ) (many : ℕ) (rest : List ℕ) : Type 0 where
+  pub within : many + length rest ≤ length s
+  pub all : length (requests_of s) ≡ many + length (requests_of rest)
+  pub others : broken s ≡ broken rest
+
+-- what was asked of `first`, where 14 stands for none
+pub asked_none : (o : Option ℕ) (r : Result ℕ Refusal) {k m : Refusal} → r ≡ ok_or o m → r ≡ Err k → (o ≡ None) × (k ≡ m)
+asked_none None r e f = (refl, sym (same_err (sym e ∙ f)))
+asked_none (Some x) r e f = absurd (ok_err (sym e ∙ f))
+
+pub asked_some : (o : Option ℕ) (r : Result ℕ Refusal) {x : ℕ} (m : Refusal) → r ≡ ok_or o m → r ≡ Ok x → o ≡ Some x
+asked_some None r m e f = absurd (ok_err (sym f ∙ e))
+asked_some (Some y) r m e f = ap Some (same_ok (sym e ∙ f))
+
+-- bytes are left
+pub some-left : (n : ℕ) → eqb n 0 ≡ false → 0 < n
+some-left zero e = clash refl e
+some-left (suc n) e = omega arith
+
+module _ (s : List ℕ) (many : ℕ) (rest : List ℕ) (d : CountedTo s many rest) where
+  pub counted-broken : 0 < length rest → first_bytes rest ≡ None → Walks s (Err BrokenBuild)
+  counted-broken l none = rw (d.others ∙ first-broken rest l none)
+
+  pub counted-end : length rest ≡ 0 → Walks s (Ok many)
   counted-end l =
-      let over = drop_of_length-le s l in (
-        d.others ∙ rw over broken-none,
-        omega (arith, d.all, ap (λ (x : List ℕ). length (requests_of x)) over, ap length requests-none),
-      )
+      let over : rest ≡ [] = nil_from_length rest l in
+      let sound : broken s ≡ false = d.others ∙ rw over broken-none in
+      let none : length (requests_of rest) ≡ 0 = rw (over, requests-none) in
+      rw sound (ap Ok (omega (arith, d.all)))
 
   -- one request more
-  pub record More (size : ℕ) : Type 0 where
-    pub some : 0 < size
-    pub many-within : suc many ≤ length s
-    pub at-within : at + size ≤ length s
-    pub counted : CountedTo s (many + 1) (at + size)
-
-  pub counted_next : (size : ℕ) → at < length s → size ≡ first_bytes (drop at s) → (size ≡ 0 → ⊥) → More size
-  counted_next size l e some =
-      let rest = drop at s in
-      let first = led rest (λ none. some (e ∙ none)) in
-      let left : drop (first_bytes rest) rest ≡ drop (at + size) s =
-      ap (λ (k : ℕ). drop k rest) (sym e) ∙ drop-drop size at s in
-      let one : length (requests_of rest) ≡ suc (length (requests_of (drop (at + size) s))) =
-      ap (λ (qs : List Request). length qs) first.requests
-      ∙ ap (λ (x : List ℕ). suc (length (requests_of x))) left in
-      let within : at + size ≤ length s = omega (arith, length-drop at s, first.within) in
+  pub counted_next : (size : ℕ) → Led rest size → CountedTo s (many + 1) (drop size rest)
+  counted_next size first =
+      let one = ap (λ (qs : List Request). length qs) first.requests in
       record {
-        some = omega arith;
-        many-within = omega (arith, d.all, requests-few s);
-        at-within = within;
-        counted =
-            record {
-              within = within;
-              all = omega (arith, d.all);
-              others = d.others ∙ first.others ∙ ap broken left;
-            };
+        within = omega (arith, d.within, first.bytes, first.within, length-drop size rest);
+        all = omega (arith, d.all, one);
+        others = d.others ∙ first.others;
       }
-
--- so many requests of so many bytes, and the room
-pub room-none : (many size room : ℕ) → size ≡ 0 → false ≡ lacks_room size many room
-room-none many size room e =
-    let none : 0 * many ≡ 0 = omega arith in rw (e, none) (sym (le-ltb room 0 (omega arith)))
-
-pub room-lacks : (many size room : ℕ) → 0 < size → ltb (room / size) many ≡ lacks_room size many room
-room-lacks many size room some =
-    let same : size * many ≡ many * size = mul_comm size many in
-    let both = div-lt_iff_lt-mul {k = size} {x = room} {y = many} some in
-    rw same
-    (same_test _ _ (λ e. lt-ltb room (many * size) (both.0 (ltb-true _ _ e)))
-    (λ e. lt-ltb (room / size) many (both.1 (ltb-true _ _ e))))
 
 -- a build that is not refused: none of its requests is broken, and there is room for all
 pub accepted : (size : ℕ) (s : List ℕ) (room : ℕ) → build_refusal size s room ≡ 0
@@ -107,57 +92,47 @@ pub refuses-broken : (size : ℕ) (s : List ℕ) (room : ℕ) → broken s ≡ t
 unfolding build_refusal whole_refusal
 refuses-broken size s room some = rw some
 
--- the refusal by what was found
-walked-refusal : (size : ℕ) (s : List ℕ) (room : ℕ) (r : Walked) (lacks : Bool) → Walks s r
-    → lacks ≡ lacks_room size r.many room → whole_refusal r.broken lacks ≡ build_refusal size s room
-unfolding whole_refusal build_refusal
-walked-refusal size s room r lacks w e =
-    byBool (broken s) (λ some. rw (w.found, some))
-    (λ none. rw (w.found, none, e, w.walked none))
+-- what walking tells
+pub walked-sound : (s : List ℕ) (many : ℕ) → Walks s (Ok many) → (broken s ≡ false) × (many ≡ length (requests_of s))
+walked-sound s many w =
+    byBool (broken s) (λ e. absurd (ok_err (rw e at w))) (λ e. (e, same_ok (rw e at w)))
 
--- what is answered by what was decided
-module _ (size : ℕ) (s : List ℕ) (room : ℕ) (r : Walked) (lacks : Bool) (w : Walks s r)
-    (e : lacks ≡ lacks_room size r.many room) where
-  pub counts-many : r.broken ≡ false → lacks ≡ false → Counts size s room (Many r.many)
-  unfolding whole_refusal
-  counts-many sound enough =
-      let none : build_refusal size s room ≡ 0 =
-      sym (walked-refusal size s room r lacks w e) ∙ rw (sound, enough) in
-      rw (none, w.walked (accepted size s room none).0)
+pub walked-broken : (s : List ℕ) (k : Refusal) → Walks s (Err k) → (broken s ≡ true) × (k ≡ BrokenBuild)
+walked-broken s k w =
+    byBool (broken s) (λ e. (e, same_err (rw e at w))) (λ e. absurd (ok_err (sym (rw e at w))))
 
-  counts-refused : (k : Refusal) → number_of k ≡ whole_refusal r.broken lacks
-      → Counts size s room (Refused k)
-  counts-refused k told =
-      sym (answered-refused 0 (length (requests_of s)) k)
-      ∙ ap (λ (m : ℕ). answered m 0 (length (requests_of s))) (told ∙ walked-refusal size s room r lacks w e)
+-- what is answered by what was walked
+module _ (size : ℕ) (s : List ℕ) (room : ℕ) where
+  pub counts_broken : (k : Refusal) → Walks s (Err k) → Counts size s room (Err k)
+  counts_broken k w =
+      let broken = walked-broken s k w in rw (broken.1, refuses-broken size s room broken.0)
 
-  pub counts-14 : r.broken ≡ true → Counts size s room (Refused R14)
-  unfolding whole_refusal
-  counts-14 some = counts-refused R14 (rw some)
+  module _ (many : ℕ) (w : Walks s (Ok many)) where
+    pub counts_lack : true ≡ lacks_room size many room → Counts size s room (Err NoRoom)
+    unfolding build_refusal whole_refusal
+    counts_lack short =
+        let sound = walked-sound s many w in rw (sound.0, ← sound.1, ← short)
 
-  pub counts-5 : r.broken ≡ false → lacks ≡ true → Counts size s room (Refused R5)
-  unfolding whole_refusal
-  counts-5 sound short = counts-refused R5 (rw (sound, short))
+    pub counts_many : false ≡ lacks_room size many room → Counts size s room (Ok many)
+    unfolding build_refusal whole_refusal
+    counts_many enough =
+        let sound = walked-sound s many w in rw (sound.0, ← sound.1, ← enough)
 
 -- what an answer tells
 module _ (size : ℕ) (s : List ℕ) (room : ℕ) where
-  pub counted-many : (many : ℕ) → Counts size s room (Many many) → Accepted size s room many
+  pub counted-many : (many : ℕ) → Counts size s room (Ok many) → Accepted size s room many
   counted-many many c =
       let parts = answered-parts (build_refusal size s room) 0 (length (requests_of s)) many c in
       record { fine = parts.0; counted = parts.1 }
 
-  pub counted-refused : (k : Refusal) → Counts size s room (Refused k) → number_of k ≡ build_refusal size s room
-  counted-refused k c =
-      ap (λ (a : Answer ℕ). a.number) c ∙ answered-number (build_refusal size s room) 0 (length (requests_of s))
-
 -- one answer
-same-counted : (r q : Counted) → counted_of r ≡ counted_of q → r ≡ q
-same-counted (Many a) (Many b) e = ap Many (ap (λ (x : Answer ℕ). x.parts) e)
-same-counted (Many a) (Refused k) e = absurd (never-refused a 0 k e)
-same-counted (Refused k) (Many b) e = absurd (never-refused b 0 k (sym e))
-same-counted (Refused k) (Refused m) e =
-    ap Refused (number-injective k m (ap (λ (x : Answer ℕ). x.number) e))
+same-counted : (r q : Result ℕ Refusal) → counted_of r ≡ counted_of q → r ≡ q
+same-counted (Ok a) (Ok b) e = ap Ok (ap (λ (x : Answer ℕ). x.parts) e)
+same-counted (Ok a) (Err k) e = absurd (never-refused a 0 k e)
+same-counted (Err k) (Ok b) e = absurd (never-refused b 0 k (sym e))
+same-counted (Err k) (Err m) e =
+    ap Err (number-injective k m (ap (λ (x : Answer ℕ). x.number) e))
 
-pub counts-unique : (size : ℕ) (s : List ℕ) (room : ℕ) (r q : Counted) → Counts size s room r
+pub counts-unique : (size : ℕ) (s : List ℕ) (room : ℕ) (r q : Result ℕ Refusal) → Counts size s room r
     → Counts size s room q → r ≡ q
 counts-unique size s room r q c c' = same-counted r q (c ∙ sym c')

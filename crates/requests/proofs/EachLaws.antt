@@ -15,10 +15,6 @@ module _ (Piece : Request → List ℕ → Type 0) where
   each_append _ rs _ b (next {q} {qs} {piece} {pieces} p more) e =
       rw (append_assoc piece pieces b) (next p (each_append qs rs pieces b more e))
 
-  -- one request alone
-  pub each-one : (q : Request) (piece : List ℕ) → Piece q piece → Each Piece (q ∷ []) (piece ++ [])
-  each-one q piece p = next p none
-
   -- the pieces of the first requests and those of the others
   pub record Halves (qs rs : List Request) (s : List ℕ) : Type 0 where
     pub front : List ℕ

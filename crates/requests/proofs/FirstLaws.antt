@@ -1,11 +1,12 @@
 -- The first request as the code measures it. Assumes nothing.
+use Rattle.std.specs.Prelude.{None, Some}
 use mathlib.Core.Path.{◌≡◌, refl}
 use mathlib.Core.Bool.{Bool, true, false, ◌||◌}
 use mathlib.Core.List.{List, [], ◌∷◌}
 use Prim.Native.Nat.{ℕ, ◌+◌}
 use native.Mathlib.Omega.{arith}
 use lib.Dec.{eqb, leb, ltb}
-use lib.ListN.{length, take, get_or, length-take}
+use lib.ListN.{length, take, length-take}
 use borrow.Author.Tests.{ltb-true, lt-ltb, leb-true, leb-false, le-ltb, ne_eqb}
 use Rattle.bits.proofs.SearchLaws.{byBool, clash}
 use Rattle.bits.proofs.TestLaws.{same_test}
@@ -22,8 +23,8 @@ cut_short size s =
     (λ e. let l = ltb-true (length s) size e in lt-ltb (length (take size s)) size (omega arith))
 
 -- there is no table of n inputs, or it has more bytes than follow
-abbrev unread : (n : ℕ) (s : List ℕ) → Bool
-unread n s = eqb (table_length n) 0 || leb (length (n ∷ s)) (table_length n)
+abbrev pub unread : (n : ℕ) (s : List ℕ) → Bool
+unread n s = eqb (table_length n) 0 || ltb (length s) (table_length n)
 
 unread-broken : (n : ℕ) (s : List ℕ) → is_broken (request_at n s) ≡ unread n s
 unfolding is_broken
@@ -40,23 +41,17 @@ unread-broken n s =
     ))
     (λ e. rw (e, lt-ltb 9 n (leb-false n 9 e)))
 
-pub first-none : (s : List ℕ) → length s ≡ 0 → 0 ≡ first_bytes s
+pub first_none : (s : List ℕ) → length s ≡ 0 → first_bytes s ≡ None
 unfolding first_bytes
-first-none [] e = refl
-first-none (n ∷ s) e = absurd (omega arith)
+first_none [] e = refl
+first_none (n ∷ s) e = absurd (omega arith)
 
-pub first-lost : (s : List ℕ) → (length s ≡ 0 → ⊥)
-    → eqb (table_length (get_or s 0 0)) 0 || leb (length s) (table_length (get_or s 0 0)) ≡ true
-    → 0 ≡ first_bytes s
+pub first_lost : (n : ℕ) (s : List ℕ) → unread n s ≡ true → None ≡ first_bytes (n ∷ s)
 unfolding first_bytes
-first-lost [] some e = refl
-first-lost (n ∷ s) some e = rw (unread-broken n s, e)
+first_lost n s e = rw (unread-broken n s, e)
 
-pub first_found : (s : List ℕ) → (length s ≡ 0 → ⊥)
-    → eqb (table_length (get_or s 0 0)) 0 || leb (length s) (table_length (get_or s 0 0)) ≡ false
-    → 1 + table_length (get_or s 0 0) ≡ first_bytes s
+pub first_found : (n : ℕ) (s : List ℕ) → unread n s ≡ false → Some (1 + table_length n) ≡ first_bytes (n ∷ s)
 unfolding first_bytes
-first_found [] some e = absurd (some refl)
-first_found (n ∷ s) some e =
+first_found n s e =
     rw (unread-broken n s, e)
     (byBool (leb n 9) (λ few. rw few) (λ many. clash {b = true} refl (rw many at e)))

@@ -3,6 +3,5 @@ pub mod RequestLaws
 pub mod FirstLaws
 pub mod CountLaws
 pub mod EachLaws
-pub mod DoneLaws
 pub mod LaidLaws
 pub mod FillLaws

@@ -1,5 +1,7 @@
 -- The requests of a build, one by one. Assumes nothing.
-use mathlib.Core.Path.{◌≡◌, refl, ap, ◌∙◌}
+use Rattle.std.specs.Prelude.{None, Some}
+use Rattle.std.proofs.lemmas.Option.{none-some, same_Some}
+use mathlib.Core.Path.{◌≡◌, refl, sym, ap, ◌∙◌}
 use mathlib.Core.Bool.{true, false, ◌||◌}
 use mathlib.Core.List.{List, [], ◌∷◌}
 use Prim.Native.Nat.{ℕ, zero, suc, ◌+◌, ◌*◌, ◌<◌, ◌≤◌}
@@ -9,7 +11,7 @@ use lib.ListN.{length, take, drop, get_or, length-take, length-drop}
 use lib.Seq.{length-take-le}
 use borrow.Author.Tests.{ltb-false, le-ltb}
 use Rattle.bits.specs.Tests.{any}
-use Rattle.bits.proofs.SearchLaws.{byBool, clash}
+use Rattle.bits.proofs.SearchLaws.{byBool}
 use Rattle.bits.proofs.TestLaws.{either-false}
 use Rattle.block.specs.Table.{table_bytes}
 use Rattle.block.specs.Refusal.{too_many_inputs}
@@ -76,55 +78,42 @@ unbroken-of-fits n s w =
       le-ltb (table_bytes n) (table_bytes n) (omega arith),
     )
 
--- the first request is whole, and what that leaves
-pub record Led (s : List ℕ) : Type 0 where
+-- the first request is whole and has so many bytes, and what that leaves
+pub record Led (s : List ℕ) (size : ℕ) : Type 0 where
   pub few : get_or s 0 0 ≤ 9
-  pub size : first_bytes s ≡ 1 + table_bytes (get_or s 0 0)
-  pub within : first_bytes s ≤ length s
-  pub requests : requests_of s ≡ first_request s ∷ requests_of (drop (first_bytes s) s)
-  pub others : broken s ≡ broken (drop (first_bytes s) s)
+  pub bytes : size ≡ 1 + table_bytes (get_or s 0 0)
+  pub within : size ≤ length s
+  pub requests : requests_of s ≡ first_request s ∷ requests_of (drop size s)
+  pub others : broken s ≡ broken (drop size s)
 
-led-by : (n : ℕ) (s : List ℕ) → is_broken (request_at n s) ≡ false → Led (n ∷ s)
-unfolding first_bytes
-led-by n s e =
+led-by : (n : ℕ) (s : List ℕ) (size : ℕ) → is_broken (request_at n s) ≡ false → size ≡ suc (table_bytes n)
+    → Led (n ∷ s) size
+led-by n s size e sized =
     let whole = fits-of-unbroken n s e in
-    let size : first_bytes (n ∷ s) ≡ suc (table_bytes n) = rw e (omega arith) in
     record {
       few = whole.few;
-      size = rw e refl;
-      within = rw size (omega (arith, whole.within));
-      requests = rw size (requests-next n s);
-      others = rw size (broken-next n s ∙ rw e refl);
+      bytes = omega (arith, sized);
+      within = omega (arith, sized, whole.within);
+      requests = rw sized (requests-next n s);
+      others = rw sized (broken-next n s ∙ rw e refl);
     }
 
 -- a first request that has bytes, and one that has none
-pub led : (s : List ℕ) → (first_bytes s ≡ 0 → ⊥) → Led s
+pub led : (s : List ℕ) (size : ℕ) → first_bytes s ≡ Some size → Led s size
 unfolding first_bytes
-led [] some = absurd (some refl)
-led (n ∷ s) some = byBool (is_broken (request_at n s)) (λ e. absurd (some (rw e))) (led-by n s)
+led [] size some = absurd (none-some size some)
+led (n ∷ s) size some =
+    byBool (is_broken (request_at n s)) (λ e. absurd (none-some size (rw e at some)))
+    (λ e. led-by n s size e (sym (same_Some _ _ (rw e at some)) ∙ omega arith))
 
-pub first-broken : (s : List ℕ) → 0 < length s → first_bytes s ≡ 0 → broken s ≡ true
+pub first-broken : (s : List ℕ) → 0 < length s → first_bytes s ≡ None → broken s ≡ true
 unfolding first_bytes
 first-broken [] l none = absurd (omega arith)
 first-broken (n ∷ s) l none =
     byBool (is_broken (request_at n s)) (λ e. broken-next n s ∙ rw e refl)
-    (λ e. let size : 1 + table_bytes n ≡ 0 = rw e at none in absurd (omega arith))
+    (λ e. absurd (none-some _ (sym (rw e at none))))
 
--- in a build that is not broken there is a first request while bytes are left
-pub led_on : (s : List ℕ) → 0 < length s → broken s ≡ false → Led s
-led_on s l e = led s (λ none. clash (first-broken s l none) e)
-
--- no more requests than bytes; and where none is broken, than half as many
-in-few : (most : ℕ) (s : List ℕ) → length (requests_in most s) ≤ most
-unfolding requests_in
-in-few zero s = omega arith
-in-few (suc most) [] = omega arith
-in-few (suc most) (n ∷ s) = omega (arith, in-few most (drop (table_bytes n) s))
-
-pub requests-few : (s : List ℕ) → length (requests_of s) ≤ length s
-unfolding requests_of
-requests-few s = in-few (length s) s
-
+-- where none is broken, there are no more requests than half as many bytes
 in-half : (most : ℕ) (s : List ℕ) → any is_broken (requests_in most s) ≡ false
     → 2 * length (requests_in most s) ≤ length s
 unfolding requests_in

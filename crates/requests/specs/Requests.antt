@@ -1,5 +1,5 @@
 -- A build: requests back to back, one byte n and then its table (request 1). Assumes nothing.
-use Rattle.std.specs.Prelude.{ℕ, zero, suc, ◌+◌, ◌*◌, Bool, ◌&&◌, ◌||◌, List, [], ◌∷◌, ◌++◌, eqb, leb, ltb, length, take, drop, get_or}
+use Rattle.std.specs.Prelude.{ℕ, zero, suc, ◌+◌, ◌*◌, Bool, ◌&&◌, ◌||◌, List, [], ◌∷◌, ◌++◌, eqb, leb, ltb, length, take, drop, get_or, Option, None, Some}
 use Rattle.bits.specs.Tests.{pick, any}
 use Rattle.block.specs.Table.{most_inputs, table_bytes}
 use Rattle.block.specs.Refusal.{◌when◌, first_of, too_many_inputs}
@@ -35,10 +35,10 @@ broken s = any is_broken (requests_of s)
 abbrev pub first_request : (s : List ℕ) → Request
 first_request s = request_at (get_or s 0 0) (drop 1 s)
 
--- its bytes; 0 if there is none, or it is broken
-unfoldable pub first_bytes : (s : List ℕ) → ℕ
-first_bytes [] = 0
-first_bytes (n ∷ s) = pick (is_broken (request_at n s)) 0 (1 + table_bytes n)
+-- its bytes; none if there is no request, or it is broken
+unfoldable pub first_bytes : (s : List ℕ) → Option ℕ
+first_bytes [] = None
+first_bytes (n ∷ s) = pick (is_broken (request_at n s)) None (Some (1 + table_bytes n))
 
 -- for the whole build first 14, then 5
 unfoldable pub whole_refusal : (broken lacks : Bool) → ℕ

@@ -13,6 +13,7 @@ ghost use Rattle.wiring.specs.Wire.{truth, shown};
 pub fn truth(t: &[u8], row: u16) -> bool
     ensures { result ≡ truth t.now row }
 {
+    // `get` in place of the test and the index makes a whole match a tenth slower (measured).
     let k = (row / 8) as usize;
     if t.len() <= k {
         return false;
@@ -25,8 +26,7 @@ pub fn key_of(set: u16) -> u16
     ensures { result ≡ key_of set }
 {
     let mut key: u16 = 0xFFFF;
-    for k in 0u16..9 {
-        let v = 8 - k;
+    for v in (0u16..9).rev() {
         if (set >> v) % 2 == 1 {
             key = v * 4096 + key / 16;
         }

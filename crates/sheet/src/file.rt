@@ -1,6 +1,5 @@
 // A sheet's file: read whole, and replaced by a longer sheet or left as it was.
-ghost use Rattle.std.specs.Prelude.{◌≡◌, ◌≤◌, length};
-ghost use Rattle.input.specs.Input.{LeavesRoom};
+ghost use Rattle.std.specs.Prelude.{◌≤◌, length, IfSome};
 
 use crate::say;
 use input::Input;
@@ -14,19 +13,19 @@ use std::{fs, io};
 // The longest sheet, and one byte more: what fills it is too long.
 pub const SHEET_ROOM: usize = MOST_RECORDS * RECORD_BYTES + 1;
 
-// Zeros. A caller's proof knows their number and does not count them.
-pub(crate) fn room() -> [u8; SHEET_ROOM]
-    ensures { 65535 ≡ length result }
-{
-    [0; SHEET_ROOM]
+// The names of a sheet's file and of the new one beside it.
+#[derive(Clone, Copy)]
+pub(crate) struct Names<'a> {
+    pub sheet: &'a [u8],
+    pub new: &'a [u8],
 }
 
 // A name as the system is asked for it. One that is not UTF-8 cannot be asked for.
 fn path_of(name: &[u8]) -> io::Result<&str> {
-    match str::from_utf8(name) {
-        Ok(path) => Ok(path),
-        Err(_) => Err(io::Error::new(ErrorKind::InvalidFilename, "The name is not UTF-8")),
-    }
+    str::from_utf8(name).map_err(|_| io::Error::new(
+        ErrorKind::InvalidFilename,
+        "The name is not UTF-8",
+    ))
 }
 
 fn open<R: Files>(rt: &R, name: &[u8]) -> io::Result<R::File> {
@@ -50,35 +49,32 @@ fn unlink(rt: &impl Files, name: &[u8]) -> io::Result<()> {
     fs::remove_file(rt, path_of(name)?)
 }
 
-// Says why a read failed.
-fn explain(rt: &impl Eprint, got: Input) {
-    match got {
-        Input::Failed(why) => say::fail(rt, "sheet: the file could not be read", why),
-        Input::Whole(_) => {}
-        Input::Longer => {}
-    }
-}
-
-// Reads the file, or says why it cannot be read.
-pub(crate) fn read(rt: &(impl Files + Eprint), path: &[u8], sheet: &mut [u8]) -> Input
-    ensures { LeavesRoom result (length sheet.new) }
+// Reads the file: how many bytes of the buffer it fills, all of them if it is longer. Where it cannot be
+// read, that is said.
+#[tactic(auto, using(input::proofs::RoomLaws::whole_within))]
+pub(crate) fn read(rt: &(impl Files + Eprint), name: &[u8], sheet: &mut [u8]) -> Option<usize>
+    ensures { IfSome result (λ used. used ≤ length sheet.new) }
 {
-    match open(rt, path) {
-        Ok(mut file) => {
-            let got = input::read(&mut file, sheet);
-            explain(rt, got);
-            got
-        }
+    let mut file = match open(rt, name) {
+        Ok(file) => file,
         Err(why) => {
             say::fail(rt, "sheet: the file could not be opened", why);
-            Input::Failed(why)
+            return None;
+        }
+    };
+    match input::read(&mut file, sheet) {
+        Ok(Input::Whole(used)) => Some(used),
+        Ok(Input::Longer) => Some(sheet.len()),
+        Err(why) => {
+            say::fail(rt, "sheet: the file could not be read", why);
+            None
         }
     }
 }
 
 // Makes the new file, or says why not. Where it is there already, no other is made.
-pub(crate) fn create<R: Files + Eprint>(rt: &R, new: &[u8]) -> Option<R::File> {
-    match open_new(rt, new) {
+pub(crate) fn create<R: Files + Eprint>(rt: &R, names: Names) -> Option<R::File> {
+    match open_new(rt, names.new) {
         Ok(file) => Some(file),
         Err(why) => {
             if why.kind() == ErrorKind::AlreadyExists {
@@ -91,56 +87,35 @@ pub(crate) fn create<R: Files + Eprint>(rt: &R, new: &[u8]) -> Option<R::File> {
     }
 }
 
-fn remove(rt: &(impl Files + Eprint), new: &[u8]) {
-    if let Err(why) = unlink(rt, new) {
+fn remove(rt: &(impl Files + Eprint), names: Names) {
+    if let Err(why) = unlink(rt, names.new) {
         say::fail(rt, "sheet: FILE.new could not be removed", why);
     }
 }
 
 // The old file stays.
-pub(crate) fn discard<R: Files + Eprint>(rt: &R, file: R::File, new: &[u8]) {
+pub(crate) fn discard<R: Files + Eprint>(rt: &R, file: R::File, names: Names) {
     drop(file);
-    remove(rt, new);
+    remove(rt, names);
 }
 
 // Says why the new file is given up.
-fn give_up<R: Files + Eprint>(
-    rt: &R,
-    file: R::File,
-    new: &[u8],
-    what: &str,
-    why: io::Error,
-) -> bool {
+fn give_up<R: Files + Eprint>(rt: &R, file: R::File, names: Names, what: &str, why: io::Error) {
     say::fail(rt, what, why);
-    discard(rt, file, new);
-    false
+    discard(rt, file, names);
 }
 
-// Where the name of the folder ends, after its last slash; 0 where there is none.
-fn folder_end(path: &[u8]) -> usize
-    ensures { result ≤ length path.now }
-{
-    let mut end = path.len();
-    while 0 < end {
-        if path[end - 1] == b'/' {
-            return end;
-        }
-        end -= 1;
+// The name of the folder that a file is in: up to its last slash, and `.` where there is none.
+fn folder_of(name: &[u8]) -> &[u8] {
+    match name.iter().rposition(|&b| b == b'/') {
+        Some(slash) => &name[..=slash],
+        None => b".",
     }
-    0
-}
-
-fn open_folder<R: Files>(rt: &R, path: &[u8]) -> io::Result<R::File> {
-    let end = folder_end(path);
-    if end == 0 {
-        return open(rt, b".");
-    }
-    open(rt, &path[..end])
 }
 
 // The new name is on disk once its folder is flushed.
-fn flush_folder(rt: &(impl Files + Eprint), path: &[u8]) {
-    match open_folder(rt, path) {
+fn flush_folder(rt: &(impl Files + Eprint), names: Names) {
+    match open(rt, folder_of(names.sheet)) {
         Ok(folder) => {
             if let Err(why) = folder.sync_all() {
                 say::fail(
@@ -159,33 +134,34 @@ fn flush_folder(rt: &(impl Files + Eprint), path: &[u8]) {
 }
 
 // Writes the new sheet, flushes it to disk and gives it the old one's name. Where one of these fails, the
-// old file stays and the new one is removed.
+// old file stays and the new one is removed, and what failed has been said: whether it is kept is all that is answered.
 pub(crate) fn keep<R: Files + Eprint>(
     rt: &R,
     mut file: R::File,
-    path: &[u8],
-    new: &[u8],
+    names: Names,
     sheet: &[u8],
 ) -> bool {
     if let Err(why) = file.write_all(sheet) {
-        return give_up(rt, file, new, "sheet: FILE.new could not be written", why);
+        give_up(rt, file, names, "sheet: FILE.new could not be written", why);
+        return false;
     }
     if let Err(why) = file.sync_all() {
-        return give_up(
+        give_up(
             rt,
             file,
-            new,
+            names,
             "sheet: FILE.new could not be flushed to disk",
             why,
         );
+        return false;
     }
     // What closing it answers cannot be asked: after the flush there is nothing left to write that could fail.
     drop(file);
-    if let Err(why) = rename(rt, new, path) {
+    if let Err(why) = rename(rt, names.new, names.sheet) {
         say::fail(rt, "sheet: FILE.new could not be given the name FILE", why);
-        remove(rt, new);
+        remove(rt, names);
         return false;
     }
-    flush_folder(rt, path);
+    flush_folder(rt, names);
     true
 }

@@ -1,17 +1,14 @@
 -- The line of a block's ten bytes. Assumes nothing.
+use Rattle.std.specs.Prelude.{Err, Ok, Result}
 use mathlib.Core.Path.{◌≡◌, refl, sym, ap, ◌∙◌}
-use mathlib.Core.List.{List, [], ◌∷◌, ◌++◌}
-use Prim.Native.Nat.{ℕ, ◌+◌, ◌<◌}
-use native.Mathlib.Numerals.{add-one}
+use mathlib.Core.List.{List, [], ◌∷◌}
+use Prim.Native.Nat.{ℕ, ◌%◌, ◌<◌}
 use native.Mathlib.Omega.{arith}
 use lib.Dec.{ltb}
-use lib.ListN.{length, get_or, take, drop, set, length-append}
-use lib.Seq.{take_all, paste, paste-suc}
+use lib.ListN.{length, length-append}
 use Rattle.bits.proofs.CountLaws.{count_most}
 use Rattle.block.specs.declared.Kind.{Kind}
 use Rattle.block.specs.declared.Refusal.{Refusal}
-use Rattle.block.specs.declared.Written.{Written}
-use Rattle.block.specs.declared.Written.TheVariants as written
 use Rattle.block.specs.Block.{Block}
 use Rattle.block.specs.Kind.{is_shared, digit_of, type_of}
 use Rattle.block.specs.Refusal.{◌when◌, first_of, number_of}
@@ -21,12 +18,10 @@ use Rattle.block.proofs.AnswerLaws.{written-unique, writes-refused, answered-num
 use Rattle.codec.specs.Ten.{unpack_of}
 use Rattle.codec.specs.Check.{check_cases, check_refusal}
 use Rattle.codec.proofs.CheckLaws.{accepted-of-none}
-use Rattle.types.specs.declared.Typed.TheVariants.{Is, Refused}
 use Rattle.types.specs.Typing.{lettered, type_answer, Types}
 use Rattle.types.proofs.TypeLaws.{gives-type, type-unique}
-use Rattle.bits.specs.Bits.{nibble}
-use Rattle.digits.specs.Digits.{digit_code, hexadecimal}
-use Rattle.digits.proofs.DigitLaws.{decimal-one, hexadecimal-length, hexadecimal-at}
+use Rattle.digits.specs.Digits.{digit_code, decimal}
+use Rattle.digits.proofs.DigitLaws.{decimal-one, hexadecimal-length}
 use Rattle.text.specs.Line.{typed_line, block_line, block_line_bytes, WritesText, line_refusal, LinesBlock}
 
 -- the digit of a type is one digit
@@ -34,29 +29,15 @@ pub digit_lt : (b : Block) → (type_of b).digit < 10
 unfolding type_of digit_of
 digit_lt b = let most = count_most (is_shared b) 9 in omega arith
 
+-- a number of one digit, by the digit of its low four bits
+pub digit_low : (x : ℕ) → x < 10 → digit_code (x % 16) ∷ [] ≡ decimal x
+digit_low x small =
+    let low : x % 16 ≡ x = omega arith in rw (decimal-one x small, low)
+
 pub block-length : (ten : List ℕ) → length ten ≡ 10 → length (block_line ten) ≡ block_line_bytes
 unfolding block_line
 block-length ten long =
     rw (decimal-one _ (digit_lt (unpack_of ten)), length-append, hexadecimal-length ten) (omega arith)
-
--- the first digits of ten bytes, so many, from place 4 of a text on
-unfoldable pub spelled : (start ten : List ℕ) (count : ℕ) → List ℕ
-spelled start ten count = paste start 4 (hexadecimal ten) count
-
-pub spelled-more : (start text ten : List ℕ) (i digit : ℕ) → length start ≡ 25 → length ten ≡ 10 → i < 20
-    → text ≡ spelled start ten i → digit ≡ digit_code (nibble ten i)
-    → set text (4 + i) digit ≡ spelled start ten (i + 1)
-unfolding spelled
-spelled-more start text ten i digit room long within so_far told =
-    let digits = hexadecimal-length ten in
-    let next : digit ≡ get_or (hexadecimal ten) i 0 = told ∙ sym (hexadecimal-at ten i (omega arith)) in
-    rw (so_far, next, add-one i) (paste-suc start 4 (hexadecimal ten) i 0 (omega arith) (omega arith))
-
-pub spelled-all : (start ten : List ℕ) → length ten ≡ 10
-    → spelled start ten 20 ≡ take 4 start ++ hexadecimal ten ++ drop 24 start
-unfolding spelled
-spelled-all start ten long =
-    let digits = hexadecimal-length ten in rw (take_all 20 (hexadecimal ten) (omega arith))
 
 -- checking decides, then the room
 line-cases : (n : ℕ) (ten : List ℕ) (room : ℕ)
@@ -65,8 +46,8 @@ unfolding line_refusal check_refusal
 line-cases n ten room = first-append (check_cases n ten) (5 when ltb room block_line_bytes ∷ []) refl
 
 -- bytes that have no type are refused as checking refuses them
-pub line_refused : (n : ℕ) (ten before : List ℕ) (k : Refusal) → Types n ten (Refused k)
-    → LinesBlock n ten before before (written.Refused k)
+pub line_refused : (n : ℕ) (ten before : List ℕ) (k : Refusal) → Types n ten (Err k)
+    → LinesBlock n ten before before (Err k)
 unfolding type_answer
 line_refused n ten before k typed =
     let rest = first_of (5 when ltb (length before) block_line_bytes ∷ []) in
@@ -84,11 +65,11 @@ pub record Passed (n : ℕ) (ten : List ℕ) (k : Kind) : Type 0 where
   pub long : length ten ≡ 10
   pub kind : k ≡ type_of (unpack_of ten)
 
-pub typed-passes : (n : ℕ) (ten : List ℕ) (k : Kind) → Types n ten (Is k) → Passed n ten k
+pub typed-passes : (n : ℕ) (ten : List ℕ) (k : Kind) → Types n ten (Ok k) → Passed n ten k
 unfolding type_answer
 typed-passes n ten k typed =
     let none = (answered-parts (check_refusal n ten) (0, 0) (lettered (type_of (unpack_of ten))) (lettered k) typed).0 in
-    let same : Is k ≡ Is (type_of (unpack_of ten)) = type-unique n ten _ _ typed (gives-type n ten none) in
+    let same : Ok k ≡ Ok (type_of (unpack_of ten)) = type-unique n ten _ _ typed (gives-type n ten none) in
     record { checked = none; long = (accepted-of-none n ten none).ten; kind = cc same }
 
 -- of bytes that pass, only the room is asked
@@ -97,17 +78,17 @@ pub line-passed : (n : ℕ) (ten : List ℕ) (room : ℕ) → check_refusal n te
 line-passed n ten room none =
     line-cases n ten room ∙ rw (none, block-length ten (accepted-of-none n ten none).ten)
 
-pub line-written : (n : ℕ) (ten before after : List ℕ) (k : Kind) (r : Written) → Passed n ten k
+pub line-written : (n : ℕ) (ten before after : List ℕ) (k : Kind) (r : Result ℕ Refusal) → Passed n ten k
     → WritesText (typed_line k ten) before after r → LinesBlock n ten before after r
 unfolding block_line
 line-written n ten before after k r p w =
     rw (line-passed n ten (length before) p.checked) (rw p.kind at w)
 
-pub line-text : (n : ℕ) (ten before after : List ℕ) (r : Written) → check_refusal n ten ≡ 0
+pub line-text : (n : ℕ) (ten before after : List ℕ) (r : Result ℕ Refusal) → check_refusal n ten ≡ 0
     → LinesBlock n ten before after r → WritesText (block_line ten) before after r
 line-text n ten before after r none w = rw (line-passed n ten (length before) none) at w
 
-pub lines-unique : (n : ℕ) (ten before after after' : List ℕ) (r q : Written) → LinesBlock n ten before after r
+pub lines-unique : (n : ℕ) (ten before after after' : List ℕ) (r q : Result ℕ Refusal) → LinesBlock n ten before after r
     → LinesBlock n ten before after' q → (r ≡ q) × (after ≡ after')
 lines-unique n ten before after after' r q w w' =
     written-unique (line_refusal n ten (length before)) (block_line ten) before after after' r q w w'

@@ -1,6 +1,6 @@
 -- Blocks, refusals and counts as lines of text (document 01, "The program"). Assumes nothing.
-use Rattle.std.specs.Prelude.{ℕ, List, [], ◌∷◌, ◌++◌, ltb, length}
-use Rattle.block.specs.declared.Written.{Written}
+use Rattle.std.specs.Prelude.{ℕ, List, [], ◌∷◌, ◌++◌, ltb, length, Result}
+use Rattle.block.specs.declared.Refusal.{Refusal}
 use Rattle.block.specs.declared.Kind.{Kind}
 use Rattle.block.specs.Kind.{letter_code, type_of}
 use Rattle.block.specs.Refusal.{◌when◌, first_of}
@@ -46,7 +46,7 @@ unfoldable pub count_line : (count : ℕ) → List ℕ
 count_line count = decimal count ++ (line_feed ∷ [])
 
 -- a text at the start of a lent buffer: 5 if it does not fit
-abbrev pub WritesText : (text before after : List ℕ) (r : Written) → Type 0
+abbrev pub WritesText : (text before after : List ℕ) (r : Result ℕ Refusal) → Type 0
 WritesText text before after r =
     Writes (first_of (5 when ltb (length before) (length text) ∷ [])) text before after r
 
@@ -55,5 +55,5 @@ unfoldable pub line_refusal : (n : ℕ) (ten : List ℕ) (room : ℕ) → ℕ
 line_refusal n ten room = first_of (check_cases n ten ++ (5 when ltb room block_line_bytes ∷ []))
 
 -- what the line of ten bytes promises
-abbrev pub LinesBlock : (n : ℕ) (ten before after : List ℕ) (r : Written) → Type 0
+abbrev pub LinesBlock : (n : ℕ) (ten before after : List ℕ) (r : Result ℕ Refusal) → Type 0
 LinesBlock n ten before after r = Writes (line_refusal n ten (length before)) (block_line ten) before after r

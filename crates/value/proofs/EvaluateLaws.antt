@@ -1,5 +1,6 @@
 -- What each test of the evaluator decides, and that its promise leaves one answer. Assumes nothing.
-use mathlib.Core.Path.{◌≡◌, refl, sym, ap, ◌∙◌}
+use Rattle.std.specs.Prelude.{Result}
+use mathlib.Core.Path.{◌≡◌, refl, sym, ◌∙◌}
 use mathlib.Core.List.{List, [], ◌∷◌}
 use Prim.Native.Nat.{ℕ, ◌<◌, ◌≤◌}
 use lib.Pow.{pow_mono}
@@ -8,15 +9,13 @@ use Rattle.block.specs.declared.Refusal.{Refusal}
 use Rattle.block.specs.Table.{table_rows}
 use Rattle.block.specs.Value.{block_value}
 use Rattle.block.specs.Refusal.{◌when◌, number_of}
-use Rattle.block.specs.Answer.{Answer, answer, answered}
-use Rattle.block.proofs.RefusalLaws.{at-refusal, number-injective, or_else, first-append}
-use Rattle.block.proofs.AnswerLaws.{never-refused}
+use Rattle.block.specs.Answer.{answer, answered}
+use Rattle.block.proofs.RefusalLaws.{at-refusal, or_else, first-append}
+use Rattle.block.proofs.AnswerLaws.{same-answer}
 use Rattle.codec.specs.Ten.{unpack_of}
 use Rattle.codec.specs.Check.{check_cases, check_refusal}
-use Rattle.value.specs.declared.Evaluated.{Evaluated}
-use Rattle.value.specs.declared.Evaluated.TheVariants.{Bit, Refused}
 use Rattle.value.specs.Evaluate.{Evaluates}
-use Rattle.value.specs.Evaluate.{no_such_row, row_refusal, evaluate_refusal, evaluated_of}
+use Rattle.value.specs.Evaluate.{no_such_row, row_refusal, evaluate_refusal}
 use Rattle.value.specs.Evaluate.{evaluate_answer}
 
 pub rows_few : (n : ℕ) → n ≤ 9 → table_rows n ≤ 512
@@ -49,13 +48,6 @@ module _ (n : ℕ) (s : List ℕ) (row : ℕ) where
   unfolding evaluate_answer
   leaves-row e = rw (refusal-parts, e)
 
-same-evaluated : (r q : Evaluated) → evaluated_of r ≡ evaluated_of q → r ≡ q
-same-evaluated (Bit v) (Bit w) e = ap Bit (ap (λ (a : Answer ℕ). a.parts) e)
-same-evaluated (Bit v) (Refused k) e = absurd (never-refused v 0 k e)
-same-evaluated (Refused k) (Bit w) e = absurd (never-refused w 0 k (sym e))
-same-evaluated (Refused k) (Refused m) e =
-    ap Refused (number-injective k m (ap (λ (a : Answer ℕ). a.number) e))
-
-pub evaluate-unique : (n : ℕ) (s : List ℕ) (row : ℕ) (r q : Evaluated)
+pub evaluate-unique : (n : ℕ) (s : List ℕ) (row : ℕ) (r q : Result ℕ Refusal)
     → Evaluates n s row r → Evaluates n s row q → r ≡ q
-evaluate-unique n s row r q p p' = same-evaluated r q (p ∙ sym p')
+evaluate-unique n s row r q p p' = same-answer _ 0 (λ x y e. e) r q (p ∙ sym p')

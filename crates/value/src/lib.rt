@@ -10,13 +10,6 @@ ghost use Rattle.block.specs.Answer.{answered};
 ghost use Rattle.value.specs.Evaluate.{row_refusal, evaluated_of, Evaluates};
 
 use block::{FourPin, Parts, Refusal};
-use codec::Unpacked;
-
-#[derive(Clone, Copy)]
-pub enum Evaluated {
-    Bit(u8),
-    Refused(Refusal),
-}
 
 // Row k of sixteen.
 fn row_of(rows: u16, k: u8) -> u8
@@ -37,31 +30,18 @@ fn lut_value(t: FourPin, row: u16) -> u8
 fn block_value(x: Parts, row: u16) -> u8
     ensures { result ≡ block_value (block_of x) row }
 {
-    let f = x.f;
-    let g = x.g;
-    let k = 4 * lut_value(f, row) + 2 * lut_value(g, row) + block::pin_value(x.direct, row);
+    let outputs = 4 * lut_value(x.f, row) + 2 * lut_value(x.g, row);
+    let k = outputs + block::pin_value(x.direct, row);
     (x.h >> (7 - k)) & 1
 }
 
-// The value at a row below 2 to the n.
-fn value_at(n: u8, x: Parts, row: u32) -> Evaluated
-    requires { n ≤ 9 }
-    ensures { evaluated_of result ≡ answered (row_refusal n row) 0 (block_value (block_of x) row) }
-{
-    let rows: u32 = 1 << n;
-    if row < rows {
-        return Evaluated::Bit(block_value(x, row as u16));
-    }
-    Evaluated::Refused(Refusal::R13)
-}
-
 // The value's bit at a row of the block in ten bytes.
-pub fn evaluate(n: u8, s: &[u8], row: u32) -> Evaluated
+pub fn evaluate(n: u8, s: &[u8], row: u32) -> Result<u8, Refusal>
     ensures { Evaluates n s.now row result }
 {
-    let unpacked = codec::unpack(n, s);
-    match unpacked {
-        Unpacked::Refused(k) => Evaluated::Refused(k),
-        Unpacked::Block(x) => value_at(n, x, row),
+    let x = codec::unpack(n, s)?;
+    if 1 << n <= row {
+        return Err(Refusal::NoSuchRow);
     }
+    Ok(block_value(x, row as u16))
 }

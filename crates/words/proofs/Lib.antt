@@ -1,6 +1,5 @@
-pub mod PastLaws
+pub mod PrefixLaws
 pub mod TextLaws
-pub mod LeadingLaws
 pub mod NextLaws
 pub mod LineLaws
 pub mod ByteLaws

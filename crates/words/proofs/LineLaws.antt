@@ -9,15 +9,16 @@ use native.Mathlib.Omega.{arith}
 use lib.Dec.{eqb, ltb}
 use lib.ListN.{length, take, drop, get_or, take-append-drop, length-drop, drop_of_length-le}
 use lib.Seq.{drop-cons, drop-drop, length-take-le, take_all, take-take, get_or-drop, get_or-take}
-use borrow.Author.Tests.{lt-ltb, le-ltb, ltb-true, ltb-false, eqb-true}
+use borrow.Author.Tests.{lt-ltb, le-ltb, ltb-true, ltb-false, eqb-true, eqb-false}
 use Rattle.bits.specs.Tests.{pick}
 use Rattle.bits.proofs.TestLaws.{both_left, both_right}
 use Rattle.bits.proofs.SearchLaws.{byBool}
-use Rattle.words.specs.declared.Run.TheVariants.{Line}
 use Rattle.words.specs.declared.Ends.{Ends}
 use Rattle.words.specs.Text.{line_feed, carriage_return, ends, filled, words_of, content_of}
-use Rattle.words.specs.Next.{leading, past, next_line, unreturned, ends_cr_lf, line_end}
-use Rattle.words.proofs.LeadingLaws.{leading-most, leading-all, leading-after}
+use Rattle.std.specs.List.{prefix_len}
+use Rattle.words.specs.Next.{in_line, past, next_line, unreturned, ends_cr_lf, line_end}
+use Rattle.std.proofs.lemmas.List.Sums.{prefix_len-le-length}
+use Rattle.words.proofs.PrefixLaws.{prefix-passes, prefix-after}
 use Rattle.words.proofs.TextLaws.{words-none, content-line, content-last}
 
 -- the last byte, by its place
@@ -53,14 +54,14 @@ pub record NextLine (text : List ℕ) (at : ℕ) (line : Ends) : Type 0 where
 module _ (text : List ℕ) (at : ℕ) (inside : at < length text) where
   -- how many bytes the line has before its LF
   abbrev many : ℕ
-  many = leading Line (drop at text)
+  many = prefix_len in_line (drop at text)
 
   most : at + many ≤ length text
-  most = omega (arith, leading-most Line (drop at text), length-drop at text)
+  most = omega (arith, prefix_len-le-length in_line (drop at text), length-drop at text)
 
   -- they are those before the LF
   length_before : length (take many (drop at text)) ≡ many
-  length_before = length-take-le many (drop at text) (leading-most Line (drop at text))
+  length_before = length-take-le many (drop at text) (prefix_len-le-length in_line (drop at text))
 
   byte-before : 0 < many → get_or (take many (drop at text)) (many - 1) 0 ≡ get_or text (at + many - 1) 0
   byte-before some =
@@ -91,9 +92,8 @@ module _ (text : List ℕ) (at : ℕ) (inside : at < length text) where
 
   -- the byte after them, if there is one, is an LF
   feed-there : at + many < length text → get_or text (at + many) 0 ≡ line_feed
-  unfolding leading
   feed-there more =
-      let after = leading-after Line (drop at text) in
+      let after = prefix-after in_line (drop at text) in
       let left = rw (drop-drop many at text, drop-cons text (at + many) 0 more) at after in
       byBool (eqb (get_or text (at + many) 0) line_feed)
       (λ e. eqb-true _ _ e)
@@ -111,13 +111,13 @@ module _ (text : List ℕ) (at : ℕ) (inside : at < length text) where
       ∙ ap (λ (l : List ℕ). line ++ l)
       (drop-drop many at text ∙ drop-cons text (at + many) 0 more
       ∙ ap (λ (b : ℕ). b ∷ rest) (feed-there more)) in
-      ap content_of e ∙ content-line line rest (leading-all Line (drop at text))
+      ap content_of e ∙ content-line line rest (prefix-passes in_line (drop at text))
 
   -- the last line
   last : length text ≤ at + many → content_of (drop at text) ≡ filled (words_of (drop at text) ∷ [])
   last over =
       let whole = take_all many (drop at text) (omega (arith, length-drop at text)) in
-      content-last (drop at text) (rw whole at (leading-all Line (drop at text)))
+      content-last (drop at text) (rw whole at (prefix-passes in_line (drop at text)))
 
 pub content-none : content_of [] ≡ []
 content-none = content-last [] refl ∙ rw words-none
@@ -143,7 +143,7 @@ end-bounds text at feed l =
 pub next-line-is : (text : List ℕ) (at : ℕ) → at < length text → NextLine text at (next_line text at)
 unfolding next_line
 next-line-is text at inside =
-    let feed = past Line text at in
+    let feed = past in_line text at in
     let bounds = end-bounds text at feed (omega arith) in
     let reach = most text at inside in
     byBool (ltb feed (length text))
@@ -170,3 +170,32 @@ next-line-is text at inside =
           rw (whole, drop_of_length-le text {i = feed} l, content-none, append-nil)
           (last text at inside l);
     }))
+
+-- a line with words stays in the content
+filled-some : (words : List (List ℕ)) → 0 < length words → filled (words ∷ []) ≡ words ∷ []
+filled-some [] some = absurd (omega arith)
+filled-some (word ∷ words) some = refl
+
+-- the line that was sought at the start of a text that is not empty
+module _ (text : List ℕ) (line : Ends) (inside : eqb (length text) 0 ≡ false) (e : line ≡ next_line text 0) where
+  pub line-sought : NextLine text 0 line
+  line-sought = let some = eqb-false _ _ inside in rw e (next-line-is text 0 (omega arith))
+
+  -- its bytes, and what follows it
+  module _ (front rest : List ℕ) (before : front ≡ take line.end text) (after : rest ≡ drop line.next text) where
+    line-left : content_of text ≡ filled (words_of front ∷ []) ++ content_of rest
+    line-left =
+        let whole : line.end - 0 ≡ line.end = omega arith in
+        rw (before, after) (rw whole at line-sought.content)
+
+    -- a line with words, and one without
+    pub line-first : 0 < length (words_of front) → content_of text ≡ words_of front ∷ content_of rest
+    line-first some = line-left ∙ rw (filled-some (words_of front) some)
+
+    pub line-passed : words_of front ≡ [] → content_of rest ≡ content_of text
+    line-passed none = sym (line-left ∙ rw none)
+
+-- no line is left of a text that is over
+pub lines-over : (text : List ℕ) → eqb (length text) 0 ≡ true → content_of text ≡ []
+lines-over [] over = content-none
+lines-over (b ∷ text) over = absurd (omega (arith, eqb-true _ _ over))

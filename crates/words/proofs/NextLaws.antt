@@ -4,28 +4,30 @@ use mathlib.Core.List.{List, [], ◌∷◌}
 use Prim.Native.Nat.{ℕ, ◌-◌, ◌≤◌, ◌<◌}
 use native.Mathlib.Nat.{add-sub_cancel_left}
 use native.Mathlib.Omega.{arith}
+use Rattle.std.proofs.Math.Numerals.{one-add}
 use lib.Dec.{eqb}
 use lib.ListN.{length, take, drop, take-append-drop, length-drop}
 use lib.Seq.{drop-drop, length-take-le}
 use borrow.Author.Tests.{lt-ltb, eqb-true}
 use Rattle.bits.proofs.SearchLaws.{byBool}
-use Rattle.words.specs.declared.Run.TheVariants.{Separators, Word}
 use Rattle.words.specs.declared.Span.{Span}
 use Rattle.words.specs.Text.{hash, separates, words_of}
-use Rattle.words.specs.Next.{leading, past, next_word}
-use Rattle.words.proofs.LeadingLaws.{leading-most, leading-all, leading-after}
+use Rattle.std.specs.List.{prefix_len}
+use Rattle.words.specs.Next.{in_word, past, next_word}
+use Rattle.std.proofs.lemmas.List.Sums.{prefix_len-le-length}
+use Rattle.words.proofs.PrefixLaws.{prefix-passes, prefix-after}
 use Rattle.words.proofs.TextLaws.{words-gap, words-none, words-comment, words-word}
 
 -- separators before a word are skipped
-words-skip : (s : List ℕ) → words_of s ≡ words_of (drop (leading Separators s) s)
-unfolding leading
+words-skip : (s : List ℕ) → words_of s ≡ words_of (drop (prefix_len separates s) s)
 words-skip [] = refl
 words-skip (b ∷ s) =
-    byBool (separates b) (λ e. rw (e, words-gap b s e) (words-skip s)) (λ e. rw e)
+    byBool (separates b)
+    (λ e. rw (e, one-add (prefix_len separates s), words-gap b s e) (words-skip s))
+    (λ e. rw e)
 
 -- what begins with neither a separator nor a word is a comment or nothing
-words-over : (s : List ℕ) → leading Separators s ≡ 0 → leading Word s ≡ 0 → words_of s ≡ []
-unfolding leading
+words-over : (s : List ℕ) → prefix_len separates s ≡ 0 → prefix_len in_word s ≡ 0 → words_of s ≡ []
 words-over [] gap word = words-none
 words-over (b ∷ s) gap word =
     byBool (separates b)
@@ -36,12 +38,12 @@ words-over (b ∷ s) gap word =
     (λ h. absurd (let z = rw (e, h) at word in omega arith)))
 
 -- the word in front, and the rest
-words-front : (s : List ℕ) → 0 < leading Word s
-    → words_of s ≡ take (leading Word s) s ∷ words_of (drop (leading Word s) s)
+words-front : (s : List ℕ) → 0 < prefix_len in_word s
+    → words_of s ≡ take (prefix_len in_word s) s ∷ words_of (drop (prefix_len in_word s) s)
 words-front s some =
-    ap words_of (sym (take-append-drop (leading Word s) s))
-    ∙ words-word (take (leading Word s) s) (drop (leading Word s) s) (leading-all Word s)
-    (rw (length-take-le _ s (leading-most Word s)) (lt-ltb 0 _ some)) (leading-after Word s)
+    ap words_of (sym (take-append-drop (prefix_len in_word s) s))
+    ∙ words-word (take (prefix_len in_word s) s) (drop (prefix_len in_word s) s) (prefix-passes in_word s)
+    (rw (length-take-le _ s (prefix_len-le-length in_word s)) (lt-ltb 0 _ some)) (prefix-after in_word s)
 
 -- the next word from `at` on
 pub record Next (line : List ℕ) (at : ℕ) (word : Span) : Type 0 where
@@ -55,20 +57,20 @@ pub record Next (line : List ℕ) (at : ℕ) (word : Span) : Type 0 where
 
 module _ (line : List ℕ) (at : ℕ) where
   -- from the start of the next word on
-  words-from : words_of (drop at line) ≡ words_of (drop (past Separators line at) line)
-  words-from = words-skip (drop at line) ∙ ap words_of (drop-drop (leading Separators (drop at line)) at line)
+  words-from : words_of (drop at line) ≡ words_of (drop (past separates line at) line)
+  words-from = words-skip (drop at line) ∙ ap words_of (drop-drop (prefix_len separates (drop at line)) at line)
 
-  gap-over : leading Separators (drop (past Separators line at) line) ≡ 0
+  gap-over : prefix_len separates (drop (past separates line at) line) ≡ 0
   gap-over =
-      rw (sym (drop-drop (leading Separators (drop at line)) at line)) (leading-after Separators (drop at line))
+      rw (sym (drop-drop (prefix_len separates (drop at line)) at line)) (prefix-after separates (drop at line))
 
 pub next-word-is : (line : List ℕ) (at : ℕ) → Next line at (next_word line at)
 unfolding next_word
 next-word-is line at =
-    let start = past Separators line at in
+    let start = past separates line at in
     let rest = drop start line in
-    let gap = leading-most Separators (drop at line) in
-    let most = leading-most Word rest in
+    let gap = prefix_len-le-length separates (drop at line) in
+    let most = prefix_len-le-length in_word rest in
     record {
       from = omega arith;
       ordered = omega arith;
@@ -76,6 +78,19 @@ next-word-is line at =
       none = λ e. words-from line at ∙ words-over rest (gap-over line at) (omega arith);
       one =
           λ l.
-          rw (add-sub_cancel_left, ← drop-drop (leading Word rest) start line)
+          rw (add-sub_cancel_left, ← drop-drop (prefix_len in_word rest) start line)
           (words-from line at ∙ words-front rest (omega arith));
     }
+
+-- the word that was sought from a place on
+pub sought : (line : List ℕ) (at : ℕ) (word : Span) → word ≡ next_word line at → Next line at word
+sought line at word e = rw e (next-word-is line at)
+
+-- the word in front and what follows it are what was left
+pub word-left : (line rest : List ℕ) (word : Span) → word ≡ next_word line 0 → (word.start ≡ word.end → ⊥)
+    → rest ≡ drop word.end line
+    → words_of line ≡ take (word.end - word.start) (drop word.start line) ∷ words_of rest
+word-left line rest word e some after =
+    let next = sought line 0 word e in
+    let ordered = next.ordered in
+    rw after (next.one (omega arith))

@@ -2,7 +2,7 @@
 use mathlib.Core.Path.{◌≡◌, refl, ap}
 use mathlib.Core.Bool.{true, false}
 use mathlib.Core.List.{List, [], ◌∷◌, ◌++◌, map, append-nil}
-use Prim.Native.Nat.{ℕ}
+use Prim.Native.Nat.{ℕ, suc, ◌≤◌}
 use native.Mathlib.Omega.{arith}
 use lib.Dec.{eqb, ltb}
 use lib.ListN.{length}
@@ -10,13 +10,13 @@ use borrow.Author.Tests.{not-true, eqb-true}
 use Rattle.bits.specs.Tests.{every}
 use Rattle.bits.proofs.TestLaws.{both_left, both_right, either-false}
 use Rattle.bits.proofs.SearchLaws.{byBool, clash}
-use Rattle.words.specs.declared.Run.TheVariants.{Word, Line}
-use Rattle.words.specs.Text.{line_feed, carriage_return, hash, begins, filled, lines_of}
+use Rattle.words.specs.Text.{line_feed, carriage_return, hash, begins, extended, filled, lines_of}
 use Rattle.words.specs.Text.{uncommented, separates, runs_of, words_of, content_of}
-use Rattle.words.specs.Next.{belongs, leading, unreturned}
+use Rattle.std.specs.List.{prefix_len}
+use Rattle.words.specs.Next.{in_word, in_line, unreturned}
 
 -- a byte of a word is no separator and no `#`
-in-word : (b : ℕ) → belongs Word b ≡ true → (separates b ≡ false) × (eqb b hash ≡ false)
+in-word : (b : ℕ) → in_word b ≡ true → (separates b ≡ false) × (eqb b hash ≡ false)
 in-word b e = either-false (separates b) (eqb b hash) (not-true _ e)
 
 -- a separator is no `#`
@@ -27,19 +27,19 @@ separator-only b e =
     (λ h. h)
 
 -- a word before other bytes makes the first run longer
-runs-word : (w rest first : List ℕ) (others : List (List ℕ)) → every (belongs Word) w ≡ true
+runs-word : (w rest first : List ℕ) (others : List (List ℕ)) → every in_word w ≡ true
     → runs_of (uncommented rest) ≡ first ∷ others
     → runs_of (uncommented (w ++ rest)) ≡ (w ++ first) ∷ others
 unfolding uncommented runs_of
 runs-word [] rest first others all e = e
 runs-word (b ∷ w) rest first others all e =
-    let byte = in-word b (both_left (belongs Word b) _ all) in
-    rw (byte.1, byte.0, runs-word w rest first others (both_right (belongs Word b) _ all) e)
+    let byte = in-word b (both_left (in_word b) _ all) in
+    rw (byte.1, byte.0, runs-word w rest first others (both_right (in_word b) _ all) e)
 
 -- what begins with no byte of a word begins with an empty run
-runs-stop : (rest : List ℕ) → leading Word rest ≡ 0
+runs-stop : (rest : List ℕ) → prefix_len in_word rest ≡ 0
     → (others : List (List ℕ)) × (runs_of (uncommented rest) ≡ [] ∷ others)
-unfolding uncommented runs_of leading
+unfolding uncommented runs_of
 runs-stop [] e = ([], refl)
 runs-stop (b ∷ rest) e =
     byBool (eqb b hash)
@@ -61,8 +61,8 @@ pub words-comment : (rest : List ℕ) → words_of (hash ∷ rest) ≡ []
 unfolding words_of uncommented runs_of
 words-comment rest = refl
 
-pub words-word : (w rest : List ℕ) → every (belongs Word) w ≡ true → ltb 0 (length w) ≡ true
-    → leading Word rest ≡ 0 → words_of (w ++ rest) ≡ w ∷ words_of rest
+pub words-word : (w rest : List ℕ) → every in_word w ≡ true → ltb 0 (length w) ≡ true
+    → prefix_len in_word rest ≡ 0 → words_of (w ++ rest) ≡ w ∷ words_of rest
 unfolding words_of
 words-word [] rest all some stop = clash some refl
 words-word (b ∷ w) rest all some stop =
@@ -70,8 +70,8 @@ words-word (b ∷ w) rest all some stop =
     rw (runs-word (b ∷ w) rest [] run.0 all run.1, run.1, append-nil w)
 
 -- a byte of a line is no LF
-in-line : (b : ℕ) (line : List ℕ) → every (belongs Line) (b ∷ line) ≡ true → eqb b line_feed ≡ false
-in-line b line all = not-true (eqb b line_feed) (both_left (belongs Line b) _ all)
+in-line : (b : ℕ) (line : List ℕ) → every in_line (b ∷ line) ≡ true → eqb b line_feed ≡ false
+in-line b line all = not-true (eqb b line_feed) (both_left (in_line b) _ all)
 
 -- a byte that is followed by no LF is the first of its line
 lines-byte : (b : ℕ) (rest first : List ℕ) (others : List (List ℕ)) → eqb b line_feed ≡ false
@@ -82,28 +82,28 @@ lines-byte b rest first others here next e =
     rw (here, next, e) (byBool (eqb b carriage_return) (λ c. rw c) (λ c. rw c))
 
 -- a line before its LF
-lines-line : (line rest : List ℕ) → every (belongs Line) line ≡ true
+lines-line : (line rest : List ℕ) → every in_line line ≡ true
     → lines_of (line ++ line_feed ∷ rest) ≡ unreturned line ∷ lines_of rest
 unfolding lines_of unreturned
 lines-line [] rest all = refl
 lines-line (b ∷ []) rest all =
     rw (in-line b [] all) (byBool (eqb b carriage_return) (λ e. rw e) (λ e. rw e))
 lines-line (b ∷ c ∷ line) rest all =
-    let later = both_right (belongs Line b) _ all in
+    let later = both_right (in_line b) _ all in
     lines-byte b (c ∷ line ++ line_feed ∷ rest) _ _ (in-line b (c ∷ line) all) (in-line c line later)
     (lines-line (c ∷ line) rest later)
 
 -- bytes of a line begin with no LF
-begins-none : (line : List ℕ) → every (belongs Line) line ≡ true → begins line_feed line ≡ false
+begins-none : (line : List ℕ) → every in_line line ≡ true → begins line_feed line ≡ false
 begins-none [] all = refl
 begins-none (b ∷ line) all = in-line b line all
 
 -- a line before the end of the text
-lines-last : (line : List ℕ) → every (belongs Line) line ≡ true → lines_of line ≡ line ∷ []
+lines-last : (line : List ℕ) → every in_line line ≡ true → lines_of line ≡ line ∷ []
 unfolding lines_of
 lines-last [] all = refl
 lines-last (b ∷ line) all =
-    let later = both_right (belongs Line b) _ all in
+    let later = both_right (in_line b) _ all in
     lines-byte b line _ _ (in-line b line all) (begins-none line later) (lines-last line later)
 
 pub filled-append : {A : Type 0} (xs ys : List (List A)) → filled (xs ++ ys) ≡ filled xs ++ filled ys
@@ -111,13 +111,38 @@ filled-append [] ys = refl
 filled-append ([] ∷ xs) ys = filled-append xs ys
 filled-append ((x ∷ first) ∷ xs) ys = ap (λ rest. (x ∷ first) ∷ rest) (filled-append xs ys)
 
-pub content-line : (line rest : List ℕ) → every (belongs Line) line ≡ true
+pub content-line : (line rest : List ℕ) → every in_line line ≡ true
     → content_of (line ++ line_feed ∷ rest) ≡ filled (words_of (unreturned line) ∷ []) ++ content_of rest
 unfolding content_of
 content-line line rest all =
     rw (lines-line line rest all) (filled-append (words_of (unreturned line) ∷ []) (map words_of (lines_of rest)))
 
-pub content-last : (line : List ℕ) → every (belongs Line) line ≡ true
+pub content-last : (line : List ℕ) → every in_line line ≡ true
     → content_of line ≡ filled (words_of line ∷ [])
 unfolding content_of
 content-last line all = rw (lines-last line all)
+
+-- a line has no more words than bytes
+filled-few : (b : ℕ) (lists : List (List ℕ)) → length (filled (extended b lists)) ≤ suc (length (filled lists))
+filled-few b [] = omega arith
+filled-few b ([] ∷ others) = omega arith
+filled-few b ((c ∷ first) ∷ others) = omega arith
+
+runs-few : (s : List ℕ) → length (filled (runs_of s)) ≤ length s
+unfolding runs_of
+runs-few [] = omega arith
+runs-few (b ∷ s) =
+    let rest = runs-few s in
+    let more = filled-few b (runs_of s) in
+    byBool (separates b) (λ e. rw e (omega arith)) (λ e. rw e (omega arith))
+
+uncommented-few : (s : List ℕ) → length (uncommented s) ≤ length s
+unfolding uncommented
+uncommented-few [] = omega arith
+uncommented-few (b ∷ s) =
+    let rest = uncommented-few s in
+    byBool (eqb b hash) (λ e. rw e (omega arith)) (λ e. rw e (omega arith))
+
+pub words-few : (line : List ℕ) → length (words_of line) ≤ length line
+unfolding words_of
+words-few line = omega (arith, runs-few (uncommented line), uncommented-few line)

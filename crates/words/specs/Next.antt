@@ -1,31 +1,26 @@
 -- Where the next word of a line and the next line of a text stand. Assumes nothing.
-use Rattle.std.specs.Prelude.{ℕ, suc, ◌+◌, ◌-◌, Bool, not, ◌&&◌, ◌||◌, List, [], ◌∷◌, eqb, ltb, length, drop, get_or}
+use Rattle.std.specs.Prelude.{ℕ, ◌+◌, ◌-◌, Bool, not, ◌&&◌, ◌||◌, List, [], ◌∷◌, eqb, ltb, length, drop, get_or}
+use Rattle.std.specs.List.{prefix_len}
 use Rattle.bits.specs.Tests.{pick}
 use Rattle.words.specs.declared.Span.{Span}
 use Rattle.words.specs.declared.Ends.{Ends}
-use Rattle.words.specs.declared.Run.{Run}
-use Rattle.words.specs.declared.Run.TheVariants.{Separators, Word, Line}
 use Rattle.words.specs.Text.{line_feed, carriage_return, hash, separates}
 
--- a byte belongs to a run of separators, to a word, or to a line
-abbrev pub belongs : Run → (b : ℕ) → Bool
-belongs Separators b = separates b
-belongs Word b = not (separates b || eqb b hash)
-belongs Line b = not (eqb b line_feed)
+-- a byte of a word, and a byte of a line
+abbrev pub in_word : ℕ → Bool
+in_word b = not (separates b || eqb b hash)
 
--- how many bytes at the start of a list belong to the run
-unfoldable pub leading : Run → List ℕ → ℕ
-leading run [] = 0
-leading run (b ∷ rest) = pick (belongs run b) (suc (leading run rest)) 0
+abbrev pub in_line : ℕ → Bool
+in_line b = not (eqb b line_feed)
 
--- the first place from `at` on whose byte does not belong to the run, or the end
-abbrev pub past : (run : Run) (s : List ℕ) (at : ℕ) → ℕ
-past run s at = at + leading run (drop at s)
+-- the first place from `at` on whose byte the test does not pass, or the end
+abbrev pub past : (test : ℕ → Bool) (s : List ℕ) (at : ℕ) → ℕ
+past test s at = at + prefix_len test (drop at s)
 
 -- the next word from `at` on, empty if there is none
 unfoldable pub next_word : (line : List ℕ) (at : ℕ) → Span
 next_word line at =
-    let start = past Separators line at in record { start = start; end = past Word line start }
+    let start = past separates line at in record { start = start; end = past in_word line start }
 
 -- the bytes before an LF without the CR that may stand directly before it
 unfoldable pub unreturned : List ℕ → List ℕ
@@ -49,5 +44,5 @@ line_next text feed = pick (ltb feed (length text)) (feed + 1) feed
 -- the line from `at` on
 unfoldable pub next_line : (text : List ℕ) (at : ℕ) → Ends
 next_line text at =
-    let feed = past Line text at in
+    let feed = past in_line text at in
     record { end = line_end text at feed; next = line_next text feed }

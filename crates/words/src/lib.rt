@@ -2,10 +2,13 @@
 
 #![tactic(auto)]
 
-ghost use Rattle.std.specs.Prelude.{◌≡◌, ◌<◌, length};
+ghost use Rattle.std.specs.Prelude.{◌≡◌, ℕ, ◌<◌, Bool, true, false, [], length};
 ghost use Rattle.bits.specs.Tests.{alike};
 ghost use Rattle.words.specs.Text.{separates};
-ghost use Rattle.words.specs.Next.{belongs, past, ends_cr_lf, line_end, line_next, next_word, next_line};
+ghost use Rattle.std.specs.Iterator.{YieldsFirstRef, YieldsFirstBy, item_count};
+ghost use Rattle.words.specs.Text.{words_of, content_of};
+ghost use Rattle.words.specs.Left.{words_left, lines_left, word_list};
+ghost use Rattle.words.specs.Next.{in_word, in_line, past, ends_cr_lf, line_end, line_next, next_word, next_line};
 
 // A word, from its first byte up to the byte after its last.
 #[derive(Clone, Copy)]
@@ -21,37 +24,35 @@ pub struct Ends {
     pub next: usize,
 }
 
-// What a run of bytes is made of: separators, bytes of a word, or bytes of a line.
-#[derive(Clone, Copy)]
-enum Run {
-    Separators,
-    Word,
-    Line,
-}
-
 fn is_separator(b: u8) -> bool
     ensures { result ≡ separates b }
 {
     (b == b' ') | (b == b'\t')
 }
 
-fn belongs(run: Run, b: u8) -> bool
-    ensures { result ≡ belongs run b }
+fn is_in_word(b: u8) -> bool
+    ensures { result ≡ in_word b }
 {
-    match run {
-        Run::Separators => is_separator(b),
-        Run::Word => !(is_separator(b) | (b == b'#')),
-        Run::Line => b != b'\n',
-    }
+    !(is_separator(b) | (b == b'#'))
 }
 
-// The first place from `at` on whose byte does not belong to the run, or the end.
-fn past(run: Run, s: &[u8], at: usize) -> usize
-    ensures { result ≡ past run s.now at }
+fn is_in_line(b: u8) -> bool
+    ensures { result ≡ in_line b }
+{
+    b != b'\n'
+}
+
+// The first place from `at` on whose byte the test does not pass, or the end. By `take_while` over the bytes a
+// cover was read a quarter slower.
+fn past<F: Fn(u8) -> bool + Drop>(s: &[u8], at: usize, test: F) -> usize
+    requires { F.IsAlwaysCallable test }
+    ensures { (p : ℕ → Bool)
+        → ((b : ℕ) (r : Bool) → F.post test b r → r ≡ p b)
+        → result ≡ past p s.now at }
 {
     let mut i = at;
     while i < s.len() {
-        if !belongs(run, s[i]) {
+        if !test(s[i]) {
             return i;
         }
         i += 1;
@@ -93,14 +94,15 @@ fn line_next(text: &[u8], feed: usize) -> usize
     feed
 }
 
-// The next word from `at` on, empty if there is none.
+// The next word from `at` on, empty if there is none: it promises where the empty one stands too, which an `Option`
+// would not say.
 pub fn next_word(line: &[u8], at: usize) -> Span
     ensures { result ≡ next_word line.now at }
 {
-    let start = past(Run::Separators, line, at);
+    let start = past(line, at, is_separator);
     Span {
         start,
-        end: past(Run::Word, line, start),
+        end: past(line, start, is_in_word),
     }
 }
 
@@ -108,7 +110,7 @@ pub fn next_word(line: &[u8], at: usize) -> Span
 pub fn next_line(text: &[u8], at: usize) -> Ends
     ensures { result ≡ next_line text.now at }
 {
-    let feed = past(Run::Line, text, at);
+    let feed = past(text, at, is_in_line);
     Ends {
         end: line_end(text, at, feed),
         next: line_next(text, feed),
@@ -119,13 +121,81 @@ pub fn next_line(text: &[u8], at: usize) -> Ends
 pub fn same(a: &[u8], b: &[u8]) -> bool
     ensures { result ≡ alike a.now b.now }
 {
-    if a.len() != b.len() {
-        return false;
+    a == b
+}
+
+// The words of a line that are left, as parts of the line.
+#[derive(Clone, Copy)]
+pub struct Words<'a> {
+    pub rest: &'a [u8],
+}
+
+impl<'a> Words<'a> {
+    pub fn of(line: &'a [u8]) -> Words<'a>
+        ensures { words_left result ≡ words_of line.now }
+    {
+        Words { rest: line }
     }
-    for i in 0..a.len() {
-        if a[i] != b[i] {
-            return false;
+}
+
+impl<'a> Iterator for Words<'a> {
+    type Item = &'a [u8];
+
+    ghost next_gives = { YieldsFirstRef words_left };
+
+    ghost remaining = { item_count words_left };
+
+    fn next(&mut self) -> Option<&'a [u8]> {
+        let line = self.rest;
+        let word = next_word(line, 0);
+        if word.start == word.end {
+            return None;
         }
+        let (_, after) = line.split_at(word.end);
+        self.rest = after;
+        Some(&line[word.start..word.end])
     }
-    true
+}
+
+fn has_words(line: &[u8]) -> bool
+    ensures some { result ≡ true → 0 < length (words_of line.now) }
+    ensures none { result ≡ false → words_of line.now ≡ [] }
+{
+    Words::of(line).next().is_some()
+}
+
+// The lines of a text that are left and have words, as parts of the text.
+#[derive(Clone, Copy)]
+pub struct Lines<'a> {
+    pub rest: &'a [u8],
+}
+
+impl<'a> Lines<'a> {
+    pub fn of(text: &'a [u8]) -> Lines<'a>
+        ensures { lines_left result ≡ content_of text.now }
+    {
+        Lines { rest: text }
+    }
+}
+
+impl<'a> Iterator for Lines<'a> {
+    type Item = &'a [u8];
+
+    ghost next_gives = { YieldsFirstBy word_list lines_left };
+
+    ghost remaining = { item_count lines_left };
+
+    fn next(&mut self) -> Option<&'a [u8]> {
+        while !self.rest.is_empty() {
+            let text = self.rest;
+            let line = next_line(text, 0);
+            let (_, rest) = text.split_at(line.next);
+            self.rest = rest;
+            let (line, _) = text.split_at(line.end);
+            if has_words(line) {
+                return Some(line);
+            }
+        }
+        None
+    }
 }

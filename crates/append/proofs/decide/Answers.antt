@@ -1,135 +1,41 @@
 -- `append::decide` meets its contract: the used part is a sheet, the new record is judged after its
--- last, then the room is looked at. Assumes nothing.
-use mathlib.Core.Path.{◌≡◌, ◌∙◌}
-use mathlib.Core.List.{List, [], ◌∷◌}
-use Prim.Native.Nat.{ℕ, ◌-◌}
-use native.Mathlib.Nat.{sub-zero}
-use lib.ListN.{length, take}
-use Rattle.block.specs.Refusal.{◌when◌}
-use Rattle.record.specs.Record.{Record, record_with}
-use Rattle.record.specs.Fault.{Fault, whole}
-use Rattle.record.specs.Told.{told, told_of}
-use Rattle.records.specs.Sheet.{records_of}
-use Rattle.records.specs.Check.{sheet_fault, Counts}
-use Rattle.append.specs.Append.{new_fault, append_fault}
+-- last, then the room is looked at.
+use mathlib.Core.Path.{ap, ◌∙◌}
+use native.Mathlib.Omega.{arith}
+use Rattle.append.specs.Append.{no_room}
+use Rattle.std.proofs.lemmas.Result.{err_from_is_err_and}
 use Rattle.records.proofs.BoundLaws.{accepted-length, counted}
-use Rattle.append.proofs.DecideLaws.{refuses-used, refuses-sheet}
-use Rattle.append.proofs.DecideLaws.{leaves-new, own_fault, refuses-new, leaves-room}
+use Rattle.append.proofs.DecideLaws.{refuses-used, refuses-sheet, refuses-new, refuses-room, accepts}
 use Rattle.append.proofs.decide.Goals as goal
 
-pub returns-then-s-used : goal.returns-then-s-used
-returns-then-s-used c =
-    refuses-used _ _ _ c.if-s-used.true
+pub returns-then-s-used-clause-err : goal.returns-then-s-used-clause-err
+returns-then-s-used-clause-err c = rw c.into.ensures (refuses-used _ _ _ c.if-s-used.true)
 
-pub returns-in_default : goal.returns-in_default
-returns-in_default c =
-    let sheet : List ℕ =
-    take c.args.used c.args.s.now
-    in
-    let sheet-counted : Counts (sheet) c.check-checked.result =
-    rw sub-zero at c.check-checked.ensures
-    in
-    refuses-sheet _ _ _ c.if-s-used.false _ c.in_default.field-0 c.in_default.field-1 c.in_default.is
-    (sheet-counted)
+pub returns-in_err-count-clause-err : goal.returns-in_err-count-clause-err
+returns-in_err-count-clause-err c =
+    let p = err_from_is_err_and c.from_residual.result c.from_residual.ensures.1 in
+    rw (p.1, p.2)
+    (refuses-sheet _ _ _ c.if-s-used.false _ (rw c.split_at.ensures.front at c.in_err-count.ensures))
 
-pub last_of-last-requires : goal.last_of-last-requires
-last_of-last-requires c =
-    let sheet : List ℕ =
-    take c.args.used c.args.s.now
-    in
-    let sheet-counted : Counts (sheet) c.check-checked.result =
-    rw sub-zero at c.check-checked.ensures
-    in
-    let sheet-found : ((sheet_fault (sheet)).number ≡ 0) × (c.in-Value.count ≡ length (records_of (sheet))) =
-    counted _ _ _ c.in-Value.is (sheet-counted)
-    in
-    rw sub-zero (accepted-length _ (sheet-found).0).multiple
+pub last_of-requires : goal.last_of-requires
+last_of-requires c = (accepted-length _ (counted _ _ c.in_ok-count.ensures).0).multiple
 
-pub returns-in_default-judged : goal.returns-in_default-judged
-returns-in_default-judged c =
-    let new : Record =
-    record_with c.args.x c.args.ten.now
-    in
-    let decisive : Fault =
-    append_fault c.args.s.now c.args.used (new)
-    in
-    let sheet : List ℕ =
-    take c.args.used c.args.s.now
-    in
-    let sheet-counted : Counts (sheet) c.check-checked.result =
-    rw sub-zero at c.check-checked.ensures
-    in
-    let sheet-found : ((sheet_fault (sheet)).number ≡ 0) × (c.in-Value.count ≡ length (records_of (sheet))) =
-    counted _ _ _ c.in-Value.is (sheet-counted)
-    in
-    let new-decides : decisive ≡ new_fault (length c.args.s.now - c.args.used) (records_of (sheet)) (new) =
-    leaves-new _ _ _ c.if-s-used.false (sheet-found).0
-    in
-    let new-judged : told_of c.judge-judged.result ≡ told (own_fault (records_of (sheet)) (new)) 0 0 =
-    let last = rw sub-zero at c.last_of-last.ensures in
-    rw (last _, ← (sheet-found).1) c.judge-judged.ensures
-    in
-    rw (new-decides)
-    (refuses-new _ _ _ _ (new-judged) c.in_default-judged.field-0 c.in_default-judged.field-1 _ c.in_default-judged.is)
+pub returns-in_err-judge-clause-err : goal.returns-in_err-judge-clause-err
+returns-in_err-judge-clause-err c =
+    let p = err_from_is_err_and c.from_residual-in_err-judge.result c.from_residual-in_err-judge.ensures.1 in
+    rw (p.1, p.2)
+    (refuses-new _ _ _ c.if-s-used.false _ (rw c.split_at.ensures.front at c.in_ok-count.ensures) _
+    (rw c.split_at.ensures.front at c.last_of.ensures) _ c.in_err-judge.ensures)
 
-pub returns-then-is_full : goal.returns-then-is_full
-returns-then-is_full c =
-    let new : Record =
-    record_with c.args.x c.args.ten.now
-    in
-    let decisive : Fault =
-    append_fault c.args.s.now c.args.used (new)
-    in
-    let sheet : List ℕ =
-    take c.args.used c.args.s.now
-    in
-    let sheet-counted : Counts (sheet) c.check-checked.result =
-    rw sub-zero at c.check-checked.ensures
-    in
-    let sheet-found : ((sheet_fault (sheet)).number ≡ 0) × (c.in-Value.count ≡ length (records_of (sheet))) =
-    counted _ _ _ c.in-Value.is (sheet-counted)
-    in
-    let new-decides : decisive ≡ new_fault (length c.args.s.now - c.args.used) (records_of (sheet)) (new) =
-    leaves-new _ _ _ c.if-s-used.false (sheet-found).0
-    in
-    let new-judged : told_of c.judge-judged.result ≡ told (own_fault (records_of (sheet)) (new)) 0 0 =
-    let last = rw sub-zero at c.last_of-last.ensures in
-    rw (last _, ← (sheet-found).1) c.judge-judged.ensures
-    in
-    let room-decides : decisive ≡ whole (5 when c.is_full.result ∷ []) =
-    new-decides
-    ∙ leaves-room _ _ _ _ (new-judged) _ c.in-Value-judged.is
-    ∙ rw (← (sheet-found).1, ← c.is_full.ensures)
-    in
-    rw (room-decides, c.if-is_full.true)
+pub returns-then-is_full-clause-err : goal.returns-then-is_full-clause-err
+returns-then-is_full-clause-err c =
+    rw c.into-then-is_full.ensures
+    (refuses-room _ _ _ c.if-s-used.false _ (rw c.split_at.ensures.front at c.in_ok-count.ensures) _
+    (rw c.split_at.ensures.front at c.last_of.ensures) c.in_ok-judge.ensures
+    (c.if-is_full.ensures ∙ ap (λ k. no_room k c.in_ok-count.count) (omega (arith, c.split_at.ensures.back_len))))
 
-pub returns : goal.returns
-returns c =
-    let new : Record =
-    record_with c.args.x c.args.ten.now
-    in
-    let decisive : Fault =
-    append_fault c.args.s.now c.args.used (new)
-    in
-    let sheet : List ℕ =
-    take c.args.used c.args.s.now
-    in
-    let sheet-counted : Counts (sheet) c.check-checked.result =
-    rw sub-zero at c.check-checked.ensures
-    in
-    let sheet-found : ((sheet_fault (sheet)).number ≡ 0) × (c.in-Value.count ≡ length (records_of (sheet))) =
-    counted _ _ _ c.in-Value.is (sheet-counted)
-    in
-    let new-decides : decisive ≡ new_fault (length c.args.s.now - c.args.used) (records_of (sheet)) (new) =
-    leaves-new _ _ _ c.if-s-used.false (sheet-found).0
-    in
-    let new-judged : told_of c.judge-judged.result ≡ told (own_fault (records_of (sheet)) (new)) 0 0 =
-    let last = rw sub-zero at c.last_of-last.ensures in
-    rw (last _, ← (sheet-found).1) c.judge-judged.ensures
-    in
-    let room-decides : decisive ≡ whole (5 when c.is_full.result ∷ []) =
-    new-decides
-    ∙ leaves-room _ _ _ _ (new-judged) _ c.in-Value-judged.is
-    ∙ rw (← (sheet-found).1, ← c.is_full.ensures)
-    in
-    rw (room-decides, c.if-is_full.false)
+pub returns-clause-ok : goal.returns-clause-ok
+returns-clause-ok c =
+    accepts _ _ _ c.if-s-used.false _ (rw c.split_at.ensures.front at c.in_ok-count.ensures) _
+    (rw c.split_at.ensures.front at c.last_of.ensures) c.in_ok-judge.ensures
+    (c.if-is_full.ensures ∙ ap (λ k. no_room k c.in_ok-count.count) (omega (arith, c.split_at.ensures.back_len)))

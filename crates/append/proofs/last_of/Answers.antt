@@ -1,12 +1,13 @@
 -- `append::last_of` meets its contract: below a record's length there is no record, else the last bytes
--- of that length are the last record. Assumes nothing.
-use Rattle.append.proofs.LastLaws.{zeros-as-last, read-as-last}
+-- of that length are the last record.
+use mathlib.Core.Path.{sym}
+use Rattle.append.proofs.LastLaws.{none-last, read-last}
 use Rattle.append.proofs.last_of.Goals as goal
 
-pub returns-then-s-lt-RECORD_BYTES : goal.returns-then-s-lt-RECORD_BYTES
-returns-then-s-lt-RECORD_BYTES c =
-    zeros-as-last _ c.if-s-lt-RECORD_BYTES.true
+pub returns-in_err-bytes : goal.returns-in_err-bytes
+returns-in_err-bytes c = rw c.from_residual.ensures (sym (none-last _ c.in_err-bytes.ensures.cases))
 
 pub returns : goal.returns
 returns c =
-    read-as-last _ c.numbers_of.result c.if-s-lt-RECORD_BYTES.false c.requires c.numbers_of.ensures
+    let (some, whole) = c.in_ok-bytes.ensures.cases in
+    rw c.pair.ensures (sym (read-last _ c.numbers_of.result some c.requires (rw whole.same at c.numbers_of.ensures)))

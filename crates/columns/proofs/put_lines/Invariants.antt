@@ -1,11 +1,15 @@
--- `columns::put_lines` meets its contract. The invariant: the lines of the records that are done stand at
--- the start of the buffer. Assumes nothing.
-use Prim.Native.Nat.{◌-◌}
+-- `columns::put_lines` meets its contract: the lines of the records that are done stand at the start of
+-- the buffer, and the bytes of the others are left.
+use Rattle.std.proofs.Common.{◌≡◌, ◌*◌, drop}
+use Rattle.std.specs.Slice.Iter.{chunks_exact_rest, chunks_exact_size}
+use Rattle.record.specs.Record.{record_bytes}
 use Rattle.columns.proofs.ListLaws.{PutTo}
 use Rattle.columns.proofs.put_lines.Given as goal
 
-abbrev pub invariant-loop-p : goal.invariant-loop-p
-invariant-loop-p l = PutTo l.s l.initial.out l.out l.p
-
-abbrev pub decreases-loop-p : goal.decreases-loop-p
-decreases-loop-p l = l.count - l.p
+abbrev pub invariant-loop-place : goal.invariant-loop-place
+invariant-loop-place l =
+    record {
+      size : chunks_exact_size l.place-iterator.iter ≡ record_bytes;
+      rest : chunks_exact_rest l.place-iterator.iter ≡ drop (l.place-iterator.count * record_bytes) l.s;
+      put : PutTo l.s l.initial.out l.out l.place-iterator.count;
+    }

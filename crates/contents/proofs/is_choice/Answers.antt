@@ -4,4 +4,4 @@ use Rattle.contents.proofs.is_choice.Goals as goal
 
 pub returns : goal.returns
 returns c =
-    choice-by c.args.n c.args.set c.size.result c.requires c.size.ensures
+    rw c.rows.ensures (choice-by c.args.inputs.n c.args.set c.args.inputs.within)

@@ -1,40 +1,35 @@
 -- `contents::least` meets its contract: where no table H passes the first test nothing computes the
 -- table, and else the least of the contents that the test finds is the least of all. Assumes nothing.
-use mathlib.Core.Path.{◌≡◌, sym, ◌∙◌}
-use mathlib.Core.Bool.{true}
-use Rattle.contents.specs.Contents.{is_wiring}
-use Rattle.contents.proofs.ChoiceLaws.{pieces}
-use Rattle.contents.proofs.LeastLaws.{least-of-all, none-possible, weighs-tidy}
+use mathlib.Core.Path.{refl, sym, ◌∙◌}
+use Rattle.contents.proofs.LeastLaws.{least-of-all, none-possible, is-least-none, weighs-tidy, weighs-refused}
 use Rattle.contents.proofs.least.Goals as goal
 
-pub demands-a-requires : goal.demands-a-requires
-demands-a-requires c =
-    let tidy : let args = c.args in is_wiring args.n args.f args.g args.direct ≡ true =
-    sym c.is_wiring.ensures ∙ c.if-not-is_wiring.false
-    in
-    let args = c.args in
-    (pieces args.n args.f args.g args.direct (tidy)).within
+pub returns-in_err-pins : goal.returns-in_err-pins
+returns-in_err-pins c =
+    rw c.from_residual.ensures
+    (weighs-refused c.args.n c.args.t.now c.args.f c.args.g c.args.direct (c.in_err-pins.ensures.none refl))
 
 pub returns-then-not-possible : goal.returns-then-not-possible
 returns-then-not-possible c =
-    let tidy : let args = c.args in is_wiring args.n args.f args.g args.direct ≡ true =
-    sym c.is_wiring.ensures ∙ c.if-not-is_wiring.false
-    in
-    let args = c.args in
-    let is = tidy in
-    weighs-tidy args.n args.t.now args.f args.g args.direct _ is
-    (none-possible args.n args.t.now args.f args.g args.direct is
-    c.wires_of-w.result c.wires_of-w.ensures c.demands-a.result c.demands-a.ensures
-    (sym c.possible.ensures ∙ c.if-not-possible.true))
+    let p = c.in_ok-pins.pins in
+    let same = c.in_ok-pins.ensures.pins in
+    rw (← same.0, ← same.1, ← same.2, ← same.3)
+    (weighs-tidy p.inputs.n c.args.t.now p.f p.g p.direct _ p.tidy
+    (is-least-none p.inputs.n c.args.t.now p.f p.g p.direct
+    (none-possible p.inputs.n c.args.t.now p.f p.g p.direct p.tidy
+    c.wires-wires.result c.wires-wires.ensures c.demands-asked.result c.demands-asked.ensures
+    (sym c.possible.ensures ∙ c.if-not-possible.true))))
 
 pub returns : goal.returns
 returns c =
-    let tidy : let args = c.args in is_wiring args.n args.f args.g args.direct ≡ true =
-    sym c.is_wiring.ensures ∙ c.if-not-is_wiring.false
-    in
-    let args = c.args in
-    let is = tidy in
-    weighs-tidy args.n args.t.now args.f args.g args.direct _ is
-    (rw c.smallest.ensures
-    (least-of-all args.n args.t.now args.f args.g args.direct is
-    c.wires_of-w.result c.wires_of-w.ensures c.demands-a.result c.demands-a.ensures))
+    let p = c.in_ok-pins.pins in
+    let same = c.in_ok-pins.ensures.pins in
+    rw (← same.0, ← same.1, ← same.2, ← same.3)
+    (weighs-tidy p.inputs.n c.args.t.now p.f p.g p.direct _ p.tidy
+    (record {
+      least =
+          rw c.smallest.ensures.least
+          (least-of-all p.inputs.n c.args.t.now p.f p.g p.direct p.tidy
+          c.wires-wires.result c.wires-wires.ensures c.demands-asked.result c.demands-asked.ensures);
+      small = λ x is. rw is at c.smallest.ensures.below;
+    }))

@@ -1,5 +1,6 @@
 -- `digits::align` meets its contract: the column is filled from its last byte to its first. The
 -- invariant: the bytes from `at` on are in place. Assumes nothing.
+use Rattle.std.proofs.Common.{◌≡◌, ◌+◌, ◌-◌}
 use native.Mathlib.Omega.{arith}
 use Rattle.digits.proofs.ColumnLaws.{placed-start, placed-turn, placed_end}
 use Rattle.digits.proofs.align.Goals as goal
@@ -10,7 +11,8 @@ loop-at-init c = placed-start _ _
 pub loop-at-preserved : goal.loop-at-preserved
 loop-at-preserved c =
     let l = c.loop-at in
-    placed-turn _ l.at l.rest _ l.out _ l.invariant c.loop-at-test.true c.symbol.ensures
+    let back : l.at - 1 + 1 ≡ l.at = omega arith in
+    placed-turn _ l.at l.rest _ l.out _ l.invariant (omega arith) (rw back at c.symbol.ensures)
 
 pub returns : goal.returns
 returns c =

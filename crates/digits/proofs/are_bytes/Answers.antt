@@ -1,21 +1,18 @@
--- `digits::are_bytes` meets its contract: the bytes from the one in hand on decide. Assumes nothing.
-use Rattle.std.proofs.Common.{rules}
-use mathlib.Core.Path.{sym, ◌∙◌}
-use borrow.Author.Tests.{le-ltb}
-use Rattle.words.proofs.ByteLaws.{every-stop, every-end}
-use Rattle.digits.specs.Spelled.{is_hexadecimal}
-use Rattle.digits.proofs.BytesLaws.{bytes-end, bytes-stop}
+-- `digits::are_bytes` meets its contract. Assumes nothing.
+use Rattle.std.proofs.Common.{rules, tests, eq-eqb, ne_eqb}
+use Rattle.std.proofs.lemmas.Iterator.{YieldsList-from_slice}
+use Rattle.std.proofs.lemmas.Iterator.Search.{all_from_yields_List}
+use Rattle.words.proofs.ByteLaws.{every-all}
+use Rattle.digits.specs.Spelled.{is_hexadecimal, is_bytes}
 use Rattle.digits.proofs.are_bytes.Goals as goal
 
-pub returns-then-value_of-gt15 : goal.returns-then-value_of-gt15
-returns-then-value_of-gt15 c =
-    let word = c.args.word.now in
-    let fails = rw c.value_of.ensures at (le-ltb c.value_of.result 16 c.if-value_of-gt15.true) in
-    bytes-stop word
-    (sym c.loop-i.invariant.1 ∙ every-stop is_hexadecimal word c.loop-i.i (search rules) fails)
+pub returns-then-word-eq0 : goal.returns-then-word-eq0
+unfolding is_bytes
+returns-then-word-eq0 c =
+    rw (eq-eqb _ _ c.if-word-eq0.true, every-all is_hexadecimal c.args.word.now)
+    (all_from_yields_List is_hexadecimal _ _ c.all.result c.all.ensures.ran
+    (YieldsList-from_slice c.args.word.now (cc)) (λ x b q k. search (rules, tests)))
 
-pub returns : goal.returns
-returns c =
-    let word = c.args.word.now in
-    bytes-end word
-    (sym c.loop-i.invariant.1 ∙ every-end is_hexadecimal word c.loop-i.i (search rules))
+pub returns-else-word-eq0 : goal.returns-else-word-eq0
+unfolding is_bytes
+returns-else-word-eq0 c = rw (ne_eqb _ _ c.if-word-eq0.false)

@@ -1,17 +1,19 @@
 -- The line is within the buffer, and there is one.
-use Rattle.std.proofs.Common.{arith}
-use mathlib.Core.Path.{◌∙◌}
-use Rattle.std.proofs.Common.{arith}
-use Rattle.block.specs.declared.Written.TheVariants.{Refused}
+use Rattle.std.proofs.Common.{◌≤◌, arith, length, sym}
+use lib.Seq.{length-take-le}
+use Rattle.block.proofs.AnswerLaws.{success}
 use Rattle.line.proofs.LineLaws.{answers-within, line-fits}
 use Rattle.drawmitten.proofs.answer.Goals as goal
 
+pub unwrap-used-requires : goal.unwrap-used-requires
+unwrap-used-requires g c = success _ _ _ (line-fits _ _ _ _ (omega arith) c.of_input.ensures)
+
+pub slice_bounds-out-end : goal.slice_bounds-out-end
+slice_bounds-out-end g c = omega (arith, c.of_input.auto.out, answers-within _ _ _ _ (rw c.unwrap-used.ensures at c.of_input.ensures))
+
 pub slice_bounds-print-end : goal.slice_bounds-print-end
 slice_bounds-print-end g c =
-    let within = answers-within _ _ _ _ (rw c.in-Length.is at c.of_input-answer.ensures) in
-    omega (arith, c.of_input-answer.auto.out, within)
-
-pub unfit-requires : goal.unfit-requires
-unfit-requires g c =
-    c.number.ensures
-    ∙ line-fits _ _ _ (Refused c.in-Refused.k) (omega arith) (rw c.in-Refused.is at c.of_input-answer.ensures)
+    let within : c.unwrap-used.result ≤ length c.of_input.new.out =
+    omega (arith, c.of_input.auto.out, answers-within _ _ _ _ (rw c.unwrap-used.ensures at c.of_input.ensures))
+    in
+    sym (length-take-le _ _ within)

@@ -9,6 +9,6 @@ returns c =
     let few = pack-fits _ _ _ _ _ c.pack.ensures in
     record {
       answer = c.pack.result;
-      promised = rw (c.four_pin-f.ensures, c.four_pin-g.ensures) at c.pack.ensures;
+      promised = rw (c.four_pin.ensures, c.four_pin-2.ensures) at c.pack.ensures;
       word = c.answer_word.ensures ∙ word-whole c.pack.result (omega arith);
     }

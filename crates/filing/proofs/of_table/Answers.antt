@@ -1,14 +1,12 @@
 -- `filing::of_table` meets its contract: a block that was matched is appended, and a refusal is told.
--- Assumes nothing.
+use Rattle.std.proofs.lemmas.Result.{err_from_is_err_and}
 use Rattle.filing.proofs.FilingLaws.{files-block, files-unmatched}
 use Rattle.filing.proofs.of_table.Goals as goal
 
-pub returns-in-Length : goal.returns-in-Length
-returns-in-Length c =
-    files-block _ _ _ _ _ _ _ _ _ _ _ c.in-Length.is
-    c.first_match-found.ensures c.append.ensures
+pub returns-in_err-first_match : goal.returns-in_err-first_match
+returns-in_err-first_match c =
+    let p = err_from_is_err_and c.from_residual.result c.from_residual.ensures.1 in
+    rw (p.1, p.2) (files-unmatched _ _ _ _ _ _ _ _ c.in_err-first_match.ensures)
 
-pub returns-in-Refused : goal.returns-in-Refused
-returns-in-Refused c =
-    files-unmatched _ _ _ _ _ _ _ _ _ c.in-Refused.is
-    c.first_match-found.ensures
+pub returns : goal.returns
+returns c = files-block _ _ _ _ _ _ _ _ _ _ c.in_ok-first_match.ensures c.append.ensures

@@ -9,13 +9,13 @@ use Rattle.filter.proofs.two.Goals as goal
 pub loop-a-preserved-then-second-eq0 : goal.loop-a-preserved-then-second-eq0
 loop-a-preserved-then-second-eq0 c =
     let l = c.loop-a in
-    (omega arith, seen_first _ _ _ _ l.invariant.1 (omega arith) c.if-words-a.false c.if-second-eq0.true)
+    (omega arith, seen_first _ _ _ _ l.invariant.1 (omega arith) c.if-word-words.false c.if-second-eq0.true)
 
 pub returns-then-words-second : goal.returns-then-words-second
 returns-then-words-second c =
     let l = c.loop-a in
     sym
-    (seen-three _ _ _ _ l.invariant.1 (omega arith) c.if-words-a.false c.if-second-eq0.false
+    (seen-three _ _ _ _ l.invariant.1 (omega arith) c.if-word-words.false c.if-second-eq0.false
     c.if-words-second.true)
 
 pub returns : goal.returns

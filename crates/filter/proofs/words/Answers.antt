@@ -11,8 +11,7 @@ use Rattle.filter.proofs.words.Goals as goal
 
 pub loop-a-init : goal.loop-a-init
 unfolding words_to
-loop-a-init c =
-    (omega arith, refl, refl)
+loop-a-init c = record { all = refl; so_far = refl }
 
 pub loop-a-preserved : goal.loop-a-preserved
 unfolding word_at
@@ -29,15 +28,14 @@ loop-a-preserved c =
     let l = c.loop-a in
     let a = c.args in
     let next =
-    ap (λ (s : List ℕ). put s l.a c.word.result) l.invariant.2
-    ∙ words_more a.t.now a.within a.set l.a c.word.result (omega arith)
-    (the_word) in
+    ap (λ (s : List ℕ). put s l.a c.word.result) l.invariant.so_far
+    ∙ words_more a.t.now a.within a.set l.a c.word.result (omega arith) the_word in
     let room = words-room a.t.now a.within a.set (l.a + 1) (omega arith) in
-    (omega arith, rw next room, next)
+    record { all = rw next room; so_far = next }
 
 pub returns : goal.returns
 returns c =
     let l = c.loop-a in
     let a = c.args in
     let done : l.a ≡ 16 = omega arith in
-    l.invariant.2 ∙ rw done (words-done a.t.now a.within a.set)
+    l.invariant.so_far ∙ rw done (words-done a.t.now a.within a.set)

@@ -1,47 +1,44 @@
--- `finding::place_of` meets its contract: no record before the place in hand has the number pair, so
--- the records from there on decide. Assumes nothing.
-use Rattle.std.proofs.Common.{rules}
-use mathlib.Core.Path.{◌≡◌, sym, ap, ◌∙◌}
-use native.Mathlib.Nat.{add-sub_cancel_left}
-use Rattle.bits.specs.Tests.{alike}
-use Rattle.record.specs.declared.Numbers.{Numbers}
-use Rattle.record.specs.Record.{record_of, pair_of, has_key}
-use Rattle.records.specs.Sheet.{bytes_at}
-use Rattle.records.proofs.BoundLaws.{counted}
-use Rattle.finding.proofs.FindLaws.{looked-start, looked-next}
+-- `finding::place_of` meets its contract: no record so far has the number pair, so what is left decides.
+use Rattle.std.proofs.Common.{arith, length-append, sym, ◌∙◌}
+use Rattle.std.proofs.lemmas.Result.{err_from_is_err_and}
+use Rattle.std.specs.Slice.Iter.{chunks_exact_rest}
+use Rattle.record.specs.Record.{pair_of}
+use Rattle.finding.proofs.FindLaws.{looked-start, looked-on, looked-here, looked-end}
 use Rattle.finding.proofs.FindLaws.{places-refused, places-found, places-none}
 use Rattle.finding.proofs.place_of.Goals as goal
 
-pub returns-in_default : goal.returns-in_default
-returns-in_default c =
-    places-refused _ _ _ _ _ c.in_default.is c.check-checked.ensures
+pub returns-in_err-check : goal.returns-in_err-check
+returns-in_err-check c =
+    let p = err_from_is_err_and c.from_residual.result c.from_residual.ensures.1 in
+    rw (p.1, p.2) (places-refused _ _ _ c.in_err-check.ensures)
 
-pub loop-p-init : goal.loop-p-init
-loop-p-init c =
-    looked-start _ _ _ (counted _ _ _ c.in-Value.is c.check-checked.ensures).1
+pub loop-place-init : goal.loop-place-init
+loop-place-init c =
+    record {
+      size = grind arith;
+      place = grind arith;
+      later = grind (arith, looked-start);
+    }
 
 pub returns-then-has_pair : goal.returns-then-has_pair
 returns-then-has_pair c =
-    let pair-told : (let a = c.args in c.has_pair.result ≡ has_key (pair_of a.craft a.block) (record_of (bytes_at a.s.now c.loop-p.p))) =
-    let a = c.args in
-    c.has_pair.ensures
-    ∙ ap (λ (x : Numbers). alike (pair_of a.craft a.block) (pair_of x.craft x.block))
-    (rw add-sub_cancel_left at c.numbers_of-x.ensures)
-    in
-    places-found _ _ _ _ c.in-Value.is c.check-checked.ensures _
-    c.loop-p.invariant (search rules) (sym pair-told ∙ c.if-has_pair.true)
+    let cut = c.in-Some.ensures.steps.0.1 in
+    let same = rw c.numbers_of.ensures at c.has_pair.ensures in
+    let here = looked-here (pair_of c.args.craft c.args.block) _ c.in-Some.bytes.now _ cut.0 (grind arith) (sym same ∙ c.if-has_pair.true) in
+    places-found _ _ _ c.in_ok-check.ensures c.in-Some.place (grind (arith, length-append)) (grind arith)
 
-pub loop-p-preserved : goal.loop-p-preserved
-loop-p-preserved c =
-    let pair-told : (let a = c.args in c.has_pair.result ≡ has_key (pair_of a.craft a.block) (record_of (bytes_at a.s.now c.loop-p.p))) =
-    let a = c.args in
-    c.has_pair.ensures
-    ∙ ap (λ (x : Numbers). alike (pair_of a.craft a.block) (pair_of x.craft x.block))
-    (rw add-sub_cancel_left at c.numbers_of-x.ensures)
-    in
-    looked-next _ _ _ _ (search rules) c.loop-p.invariant (sym pair-told ∙ c.if-has_pair.false)
+pub loop-place-preserved : goal.loop-place-preserved
+loop-place-preserved c =
+    let cut = c.in-Some.ensures.steps.0.1 in
+    let other = rw c.numbers_of.ensures at c.has_pair.ensures in
+    let on = looked-on (pair_of c.args.craft c.args.block) _ c.in-Some.bytes.now _ cut.0 (grind arith) (sym other ∙ c.if-has_pair.false) in
+    record {
+      size = grind arith;
+      place = grind (arith, length-append);
+      later = grind arith;
+    }
 
 pub returns : goal.returns
 returns c =
-    places-none _ _ _ _ c.in-Value.is c.check-checked.ensures _
-    c.loop-p.invariant c.loop-p-test.false
+    let none = looked-end (pair_of c.args.craft c.args.block) (chunks_exact_rest c.loop-place.place-iterator.iter) (grind arith) in
+    rw c.into.ensures (places-none _ _ _ c.in_ok-check.ensures (grind arith))

@@ -1,16 +1,16 @@
--- `finding::readable` meets its contract: the sheet decides, then the place. Assumes nothing.
-use native.Mathlib.Omega.{arith}
+-- `finding::readable` meets its contract: the sheet decides, then the place.
+use Rattle.std.proofs.lemmas.Result.{err_from_is_err_and}
 use Rattle.finding.proofs.ReadLaws.{read-stops, refuses-12, tells-count}
 use Rattle.finding.proofs.readable.Goals as goal
 
-pub returns-in_default : goal.returns-in_default
-returns-in_default c =
-    read-stops _ _ _ _ _ _ c.in_default.is c.check-checked.ensures
+pub returns-in_err-count : goal.returns-in_err-count
+returns-in_err-count c =
+    let p = err_from_is_err_and c.from_residual.result c.from_residual.ensures.1 in
+    rw (p.1, p.2) (read-stops _ _ _ _ c.in_err-count.ensures)
 
 pub returns-then-count-place : goal.returns-then-count-place
 returns-then-count-place c =
-    refuses-12 _ _ _ _ c.in-Value.is c.check-checked.ensures _ (omega arith)
+    rw c.into.ensures (refuses-12 _ _ _ c.in_ok-count.ensures _ c.if-count-place.true)
 
 pub returns : goal.returns
-returns c =
-    tells-count _ _ _ _ c.in-Value.is c.check-checked.ensures (omega arith)
+returns c = tells-count _ _ _ c.in_ok-count.ensures c.if-count-place.false

@@ -1,6 +1,5 @@
 -- `marks::rows_of` meets its contract. The invariant: the rows that the marks so far cover. Assumes
 -- nothing.
-use Prim.Native.Nat.{◌-◌, ◌≤◌}
 use mathlib.Core.Path.{◌≡◌}
 use lib.ListN.{take}
 use Rattle.bits.specs.Bits.{of_rows}
@@ -8,7 +7,4 @@ use Rattle.marks.specs.Marks.{covers}
 use Rattle.marks.proofs.rows_of.Given as goal
 
 abbrev pub invariant-loop-i : goal.invariant-loop-i
-invariant-loop-i l = (l.i ≤ l.end) × (l.rows ≡ of_rows 64 (covers (take l.i l.marks)))
-
-abbrev pub decreases-loop-i : goal.decreases-loop-i
-decreases-loop-i l = l.end - l.i
+invariant-loop-i l = l.rows ≡ of_rows 64 (covers (take l.i l.first))

@@ -5,10 +5,9 @@ use native.Mathlib.Omega.{arith}
 use lib.Pow.{pow_mono}
 use Rattle.matcher.proofs.padding.Goals as goal
 
-pub returns : goal.returns
-returns c =
+pub returns-in_default : goal.returns-in_default
+returns-in_default c =
     let n = c.args.n in
-    let eight : 2 ^ 3 ≤ 2 ^ n =
-    pow_mono {i = 3} {j = n} (omega (arith, c.if-n-eq0.false, c.if-n-eq1.false, c.if-n-eq2.false)) in
+    let eight : 2 ^ 3 ≤ 2 ^ n = pow_mono {i = 3} {j = n} (omega arith) in
     let none : 8 - 2 ^ n ≡ 0 = omega arith in
     rw none (omega arith)

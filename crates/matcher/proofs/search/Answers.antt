@@ -1,66 +1,80 @@
 -- `matcher::search` meets its contract. The invariant of each loop: nothing is found, and no wiring
 -- before the place fits. Assumes nothing.
-use mathlib.Core.Path.{refl, sym, ap, ◌∙◌}
+use Rattle.std.proofs.lemmas.List.{get_or-drop, take_all, length-drop}
+use mathlib.Core.Path.{◌≡◌, refl, sym, ap, ◌∙◌}
+use mathlib.Core.List.{List}
+use Prim.Native.Nat.{ℕ, ◌+◌, ◌-◌, ◌<◌, ◌≤◌}
+use lib.ListN.{length, get_or, take, drop}
+use Rattle.filter.specs.Choices.{useful_of}
+use Rattle.filter.proofs.ChoiceLaws.{used-sets}
 use native.Mathlib.Omega.{arith}
-use Rattle.filter.specs.declared.Choices.{Choices}
 use Rattle.matcher.proofs.StandLaws.{stand-start, stand-untried, stand-next}
 use Rattle.matcher.proofs.StandLaws.{stand-hopeless, stand-exchanged, stand-found}
 use Rattle.matcher.proofs.StandLaws.{stand-none, weighable}
 use Rattle.matcher.proofs.search.Goals as goal
 
+-- an entry of what is left of the list from i on, by its place in the list
+here : (s : List ℕ) (i k : ℕ) → k < length (take (length s - i) (drop i s))
+    → (get_or (take (length s - i) (drop i s)) k 0 ≡ get_or s (i + k) 0) × (i + k < length s)
+here s i k l =
+    let long : length (drop i s) ≤ length s - i = rw (length-drop i s) (omega arith) in
+    let all = take_all (length s - i) (drop i s) long in
+    let inside : k < length (drop i s) = rw all at l in
+    (rw (all, get_or-drop i s k 0), omega (arith, length-drop i s))
+
 pub search-init : goal.search-init
 search-init c =
-    let a = c.args in
-    let useful = c.useful-choices in (
-      omega arith,
-      stand-start a.n a.t.now c.support-within.result useful.result.sets
-          useful.result.many c.directs-pins.result c.requires c.support-within.ensures
-          (ap (λ (x : Choices). x.sets) useful.ensures) (ap (λ (x : Choices). x.many) useful.ensures)
-          c.directs-pins.ensures,
-    )
+    let useful = c.useful-choices.ensures in
+    let list : c.sets-sets.result.now ≡ useful_of c.number-n.result c.support-within.result =
+    c.sets-sets.ensures ∙ rw (useful.sets, useful.many) (used-sets 256 _) in
+    stand-start c.number-n.result c.args.t.now c.support-within.result c.sets-sets.result.now
+    (length c.sets-sets.result.now) c.directs-pins.result (rw c.number-n.ensures c.args.inputs.within)
+    c.support-within.ensures list (ap length list) c.directs-pins.ensures
 
-pub loop-j-init : goal.loop-j-init
-loop-j-init c =
-    (c.search.invariant.0, stand-exchanged _ _ _ _ _ _ _ c.search.i c.search-test.true c.search.invariant.1)
+pub loop-g-init : goal.loop-g-init
+loop-g-init c =
+    let start : c.search.i + 0 ≡ c.search.i = omega arith in
+    rw start (stand-exchanged _ _ _ _ _ _ _ c.search.i c.search-test.true c.search.invariant)
 
-pub loop-j-preserved-then-hopeless : goal.loop-j-preserved-then-hopeless
-loop-j-preserved-then-hopeless c = (
-  omega arith,
-  stand-hopeless _ _ _ _ _ _ _ c.search.i c.loop-j.j c.loop-j-test.true
-      c.loop-j.invariant.1 (c.hopeless.ensures c.if-hopeless.true),
-)
+pub loop-g-preserved-then-hopeless : goal.loop-g-preserved-then-hopeless
+loop-g-preserved-then-hopeless c =
+    let at = here c.sets-sets.result.now c.search.i c.loop-g.g-index c.loop-g-test.true in
+    let j = c.search.i + c.loop-g.g-index in
+    let next : c.search.i + (c.loop-g.g-index + 1) ≡ j + 1 = omega arith in
+    rw next
+    (stand-hopeless _ _ _ _ _ _ _ c.search.i j at.1 c.loop-g.invariant
+    (rw at.0 at (c.hopeless.ensures c.if-hopeless.true)))
 
 pub loop-k-preserved-then-not-is_tried : goal.loop-k-preserved-then-not-is_tried
-loop-k-preserved-then-not-is_tried c = (
-  omega arith,
-  stand-untried _ _ _ _ _ _ _ c.search.i c.loop-j.j c.loop-k.k
-      c.search-test.true c.loop-j-test.true
-      c.loop-k-test.true c.loop-k.invariant.1
-      (sym c.is_tried.ensures ∙ c.if-not-is_tried.true),
-)
+loop-k-preserved-then-not-is_tried c =
+    let at = here c.sets-sets.result.now c.search.i c.loop-g.g-index c.loop-g-test.true in
+    stand-untried _ _ _ _ _ _ _ c.search.i (c.search.i + c.loop-g.g-index) c.loop-k.k
+    c.search-test.true at.1 c.loop-k-test.true c.loop-k.invariant
+    (sym c.is_tried.ensures ∙ c.if-not-is_tried.true)
 
-pub weigh-contents-requires : goal.weigh-contents-requires
-weigh-contents-requires c =
-    weighable _ _ _ _ _ _ _ c.search.i c.loop-j.j c.loop-k.k _ c.loop-k.invariant.1
-    c.search-test.true c.loop-j-test.true
-    c.loop-k-test.true _ c.words-words.ensures
+pub weigh-requires : goal.weigh-requires
+weigh-requires c =
+    let at = here c.sets-sets.result.now c.search.i c.loop-g.g-index c.loop-g-test.true in
+    rw at.0
+    (weighable _ _ _ _ _ _ _ c.search.i (c.search.i + c.loop-g.g-index) c.loop-k.k _ c.loop-k.invariant
+    c.search-test.true at.1 c.loop-k-test.true _ c.words-words.ensures)
 
 pub loop-k-preserved : goal.loop-k-preserved
-loop-k-preserved c = (
-  omega arith,
-  stand-next _ _ _ _ _ _ _ c.search.i c.loop-j.j c.loop-k.k c.weigh-contents.result
-      c.search-test.true c.loop-j-test.true
-      c.loop-k-test.true c.loop-k.invariant.1
-      c.weigh-contents.ensures c.if-contents-lt-NONE.false,
-)
+loop-k-preserved c =
+    let at = here c.sets-sets.result.now c.search.i c.loop-g.g-index c.loop-g-test.true in
+    stand-next _ _ _ _ _ _ _ c.search.i (c.search.i + c.loop-g.g-index) c.loop-k.k
+    c.search-test.true at.1 c.loop-k-test.true c.loop-k.invariant
+    (rw at.0 at c.in_default.ensures)
 
 pub returns-after-search : goal.returns-after-search
 returns-after-search c =
-    stand-none _ _ _ _ _ _ _ c.search.i c.search-test.false c.search.invariant.0 c.search.invariant.1
+    rw (← c.number-n.ensures)
+    (stand-none _ _ _ _ _ _ _ c.search.i c.search-test.false (omega arith) c.search.invariant)
 
-pub returns-then-contents-lt-NONE : goal.returns-then-contents-lt-NONE
-returns-then-contents-lt-NONE c =
-    stand-found _ _ _ _ _ _ _ c.search.i c.loop-j.j c.loop-k.k c.weigh-contents.result
-    c.search-test.true c.loop-j-test.true
-    c.loop-k-test.true c.loop-k.invariant.1 c.weigh-contents.ensures
-    c.if-contents-lt-NONE.true _ refl refl c.direct_of.ensures refl
+pub returns-in-Some : goal.returns-in-Some
+returns-in-Some c =
+    let at = here c.sets-sets.result.now c.search.i c.loop-g.g-index c.loop-g-test.true in
+    rw (← c.number-n.ensures, at.0)
+    (stand-found _ _ _ _ _ _ _ c.search.i (c.search.i + c.loop-g.g-index) c.loop-k.k c.in-Some.contents
+    c.search-test.true at.1 c.loop-k-test.true c.loop-k.invariant
+    (rw at.0 at c.in-Some.ensures) _ refl refl c.direct_of.ensures refl)

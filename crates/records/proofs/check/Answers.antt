@@ -1,53 +1,40 @@
--- `records::check` meets its contract: the walk stands at a place, and what is left decides. Assumes
--- nothing.
-use Rattle.std.proofs.Common.{rules}
-use Prim.Native.Nat.{◌+◌, ◌-◌, ◌*◌}
-use mathlib.Core.Path.{◌≡◌, refl, sym, ◌∙◌}
-use native.Mathlib.Nat.{add-sub_cancel_left}
-use native.Mathlib.Omega.{arith}
-use lib.ListN.{drop}
-use Rattle.codec.specs.Ten.{block_bytes}
-use Rattle.record.specs.Record.{header_bytes, record_bytes}
-use Rattle.record.specs.Answers.{Numbered, Judges}
-use Rattle.records.specs.Sheet.{bytes_at}
-use Rattle.records.proofs.WalkLaws.{ten-part, refuses-length, walked_start, walked_next}
-use Rattle.records.proofs.WalkLaws.{walked_stop, walked_end}
+-- `records::check` meets its contract: the records so far have no fault, and what is left decides.
+use Rattle.std.proofs.Common.{arith, length-append, ◌∙◌}
+use Rattle.std.proofs.lemmas.Result.{err_from_is_err_and}
+use Rattle.record.proofs.ToldLaws.{fault-told, fine-told}
+use Rattle.records.proofs.SheetLaws.{records-length}
+use Rattle.records.proofs.WalkLaws.{refuses-length, right_walked, walked_on, walked_stop, walked_end}
 use Rattle.records.proofs.check.Goals as goal
 
 pub returns-then-is_wrong : goal.returns-then-is_wrong
-returns-then-is_wrong c =
-    refuses-length _ (sym c.if-is_wrong.true ∙ c.is_wrong.ensures)
+returns-then-is_wrong c = rw c.into.ensures (refuses-length _ c.if-is_wrong.ensures)
 
-pub loop-p-init : goal.loop-p-init
-loop-p-init c =
-    walked_start _ _ refl refl (sym c.if-is_wrong.false ∙ c.is_wrong.ensures)
+pub loop-place-init : goal.loop-place-init
+loop-place-init c =
+    record {
+      size = grind arith;
+      place = grind arith;
+      decides = right_walked _ c.if-is_wrong.ensures ∙ grind arith;
+    }
 
-pub returns-in_default : goal.returns-in_default
-returns-in_default c =
-    let the-numbers : let s = c.args.s.now in Numbered (bytes_at s c.loop-p.p) c.numbers_of-x.result =
-    rw add-sub_cancel_left at c.numbers_of-x.ensures
-    in
-    let the-record : let s = c.args.s.now in Judges c.loop-p.last c.numbers_of-x.result (drop header_bytes (bytes_at s c.loop-p.p)) c.loop-p.p c.judge-judged.result =
-    let s = c.args.s.now in
-    let a = c.loop-p.p * record_bytes in
-    let whole : a + record_bytes - (a + header_bytes) ≡ block_bytes = omega arith in
-    rw (whole, ten-part s a (omega arith)) at c.judge-judged.ensures
-    in
-    walked_stop _ _ _ _ (search rules) c.loop-p.invariant _ the-numbers _ the-record _ _ c.in_default.is
+pub returns-in_err-judged : goal.returns-in_err-judged
+returns-in_err-judged c =
+    let p = err_from_is_err_and c.from_residual.result c.from_residual.ensures.1 in
+    let cut = c.in-Some.ensures.steps.0.1 in
+    let stop = walked_stop _ c.in-Some.place _ c.in-Some.bytes.now _ cut.0 (grind arith) c.in_err-judged.field-0.0 c.in_err-judged.ensures.err in
+    rw (p.1, p.2) (fault-told _ _ _ (c.loop-place.invariant.decides ∙ grind arith))
 
-pub loop-p-preserved : goal.loop-p-preserved
-loop-p-preserved c =
-    let the-numbers : let s = c.args.s.now in Numbered (bytes_at s c.loop-p.p) c.numbers_of-x.result =
-    rw add-sub_cancel_left at c.numbers_of-x.ensures
-    in
-    let the-record : let s = c.args.s.now in Judges c.loop-p.last c.numbers_of-x.result (drop header_bytes (bytes_at s c.loop-p.p)) c.loop-p.p c.judge-judged.result =
-    let s = c.args.s.now in
-    let a = c.loop-p.p * record_bytes in
-    let whole : a + record_bytes - (a + header_bytes) ≡ block_bytes = omega arith in
-    rw (whole, ten-part s a (omega arith)) at c.judge-judged.ensures
-    in
-    walked_next _ _ _ _ (search rules) c.loop-p.invariant _ the-numbers _ the-record _ c.in-Value.is
+pub loop-place-preserved : goal.loop-place-preserved
+loop-place-preserved c =
+    let cut = c.in-Some.ensures.steps.0.1 in
+    let on = walked_on _ c.in-Some.place _ c.in-Some.bytes.now _ cut.0 (grind arith) c.in_ok-judged.field-0 c.in_ok-judged.ensures.ok in
+    record {
+      size = grind arith;
+      place = grind (arith, length-append);
+      decides = c.loop-place.invariant.decides ∙ grind arith;
+    }
 
 pub returns : goal.returns
 returns c =
-    walked_end _ _ _ _ c.loop-p-test.false c.loop-p.invariant
+    let ended = walked_end _ c.loop-place.place-iterator.count _ (grind arith) in
+    rw (← records-length c.args.s.now) (fine-told _ _ (c.loop-place.invariant.decides ∙ ended))

@@ -1,35 +1,48 @@
--- `rows::key_of` meets its contract. The invariant: the key of the highest variables, so many looked
--- at. Assumes nothing.
+-- `rows::key_of` meets its contract. The invariant: the key of the variables from v on. Assumes nothing.
 use mathlib.Core.Path.{◌≡◌, ap, ◌∙◌}
-use Prim.Native.Nat.{ℕ, ◌+◌, ◌-◌, ◌*◌, ◌/◌, ◌<◌}
+use Prim.Native.Nat.{ℕ, ◌+◌, ◌-◌, ◌*◌, ◌/◌}
 use native.Mathlib.Omega.{arith}
 use borrow.Author.Tests.{eq-eqb, ne_eqb}
 use lib.ListN.{take}
 use Rattle.bits.specs.Bits.{bit, has, joined}
 use Rattle.rows.proofs.KeyLaws.{padded, key-with, key-without, key-lt, key-start, key-all}
 use Rattle.rows.proofs.key_of.Goals as goal
-use Rattle.rows.proofs.key_of.Goals.{then-set-v-eq1, else-set-v-eq1}
 
-pub loop-k-init : goal.loop-k-init
-loop-k-init c =
-    (omega arith, omega arith, key-start c.args.set)
+pub loop-v-init : goal.loop-v-init
+loop-v-init c = record { fits = omega arith; looked = key-start c.args.set }
 
-pub loop-k-preserved : goal.loop-k-preserved
+pub loop-v-preserved-then-set-v-eq1 : goal.loop-v-preserved-then-set-v-eq1
 unfolding has
-loop-k-preserved c =
+loop-v-preserved-then-set-v-eq1 c =
     let set = c.args.set in
-    let k = c.loop-k.k in
-    let key = c.loop-k.invariant.2 in
-    let within : k < 9 = omega arith in
-    let bits : c.if-set-v-eq1.key ≡ joined 0 (take 4 (padded (k + 1) set)) =
-    elim c.if-set-v-eq1.branch [
-      | then-set-v-eq1 w ↦
-          w.key-is ∙ ap (λ (x : ℕ). (8 - k) * 4096 + x / 16) key ∙ key-with set k within (eq-eqb (bit set (8 - k)) 1 w.if-set-v-eq1.true)
-      | else-set-v-eq1 w ↦ w.key-is ∙ key ∙ key-without set k within (ne_eqb (bit set (8 - k)) 1 w.if-set-v-eq1.false)
-    ] in
-    (omega arith, rw bits (key-lt set (k + 1) (omega arith)), bits)
+    let v = c.loop-v.v in
+    let k = 9 - v in
+    let here : v - 1 ≡ 8 - k = omega arith in
+    let next : 9 - (v - 1) ≡ k + 1 = omega arith in
+    let has_it = rw here at c.if-set-v-eq1.true in
+    let bits : (8 - k) * 4096 + c.loop-v.key / 16 ≡ joined 0 (take 4 (padded (k + 1) set)) =
+    ap (λ (x : ℕ). (8 - k) * 4096 + x / 16) c.loop-v.invariant.looked
+    ∙ key-with set k (omega arith) (eq-eqb (bit set (8 - k)) 1 has_it) in
+    rw (next, here) (record { fits = rw bits (key-lt set (k + 1) (omega arith)); looked = bits })
+
+pub loop-v-preserved : goal.loop-v-preserved
+unfolding has
+loop-v-preserved c =
+    let set = c.args.set in
+    let v = c.loop-v.v in
+    let k = 9 - v in
+    let here : v - 1 ≡ 8 - k = omega arith in
+    let next : 9 - (v - 1) ≡ k + 1 = omega arith in
+    let has_not = rw here at c.if-set-v-eq1.false in
+    rw next
+    (record {
+      fits = c.loop-v.invariant.fits;
+      looked =
+          c.loop-v.invariant.looked
+          ∙ key-without set k (omega arith) (ne_eqb (bit set (8 - k)) 1 has_not);
+    })
 
 pub returns : goal.returns
 returns c =
-    let done : c.loop-k.k ≡ 9 = omega arith in
-    c.loop-k.invariant.2 ∙ rw done (key-all c.args.set)
+    let done : 9 - c.loop-v.v ≡ 9 = omega arith in
+    c.loop-v.invariant.looked ∙ rw done (key-all c.args.set)

@@ -1,14 +1,11 @@
--- `rows::key_of` meets its contract. The invariant: the key of the highest variables, so many looked
--- at. Assumes nothing.
+-- `rows::key_of` meets its contract. The invariant: the key of the variables from v on. Assumes nothing.
 use mathlib.Core.Path.{◌≡◌}
-use Prim.Native.Nat.{◌-◌, ◌<◌, ◌≤◌}
+use Prim.Native.Nat.{◌-◌, ◌<◌}
 use lib.ListN.{take}
 use Rattle.bits.specs.Bits.{joined}
 use Rattle.rows.proofs.KeyLaws.{padded}
 use Rattle.rows.proofs.key_of.Given as goal
 
-abbrev pub invariant-loop-k : goal.invariant-loop-k
-invariant-loop-k l = (l.k ≤ 9) × (l.key < 65536) × (l.key ≡ joined 0 (take 4 (padded l.k l.set)))
-
-abbrev pub decreases-loop-k : goal.decreases-loop-k
-decreases-loop-k l = 9 - l.k
+abbrev pub invariant-loop-v : goal.invariant-loop-v
+invariant-loop-v l =
+    record { fits : l.key < 65536; looked : l.key ≡ joined 0 (take 4 (padded (9 - l.v) l.set)) }

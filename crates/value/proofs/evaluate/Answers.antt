@@ -1,35 +1,36 @@
 -- `value::evaluate` meets its contract: it is refused as unpacking is, and then by the row. Assumes
 -- nothing.
-use mathlib.Core.Path.{ap, ◌∙◌}
+use Rattle.std.proofs.Common.{arith, ap, ◌∙◌}
+use Rattle.std.proofs.lemmas.Result.{err_from_is_err_and}
 use Rattle.block.specs.Block.{Block}
 use Rattle.block.specs.Value.{block_value}
-use Rattle.block.specs.Answer.{answered}
+use Rattle.block.specs.Answer.{answer}
 use Rattle.codec.proofs.UnpackLaws.{refused-by}
-use Rattle.codec.proofs.OpenedLaws.{Opened, opened}
-use Rattle.value.specs.Evaluate.{row_refusal}
-use Rattle.value.proofs.EvaluateLaws.{refuses-block, leaves-row}
+use Rattle.codec.proofs.OpenedLaws.{opened}
+use Rattle.value.proofs.EvaluateLaws.{rows_few, refuses-block, refuses-13, gives-bit, leaves-row}
 use Rattle.value.proofs.evaluate.Goals as goal
 
-pub value_at-requires : goal.value_at-requires
-value_at-requires c =
-    let block_of : Opened c.args.n c.args.s.now c.in-Block.x =
-    opened _ _ _ _ c.in-Block.is c.unpack-unpacked.ensures
-    in
-    (block_of).within
+pub returns-in_err-x : goal.returns-in_err-x
+returns-in_err-x c =
+    let p = err_from_is_err_and c.from_residual.result c.from_residual.ensures.1 in
+    rw (p.1, p.2) (refuses-block _ _ _ _ (refused-by _ _ _ _ c.in_err-x.was c.unpack.ensures))
 
-pub returns-in-Refused : goal.returns-in-Refused
-returns-in-Refused c =
-    let called = c.unpack-unpacked in
-    refuses-block _ _ _ c.in-Refused.k
-    (refused-by _ _ _ _ c.in-Refused.is called.ensures)
+pub overflow_shl-n : goal.overflow_shl-n
+overflow_shl-n c = omega (arith, (opened _ _ _ _ c.in_ok-x.was c.unpack.ensures).within)
 
-pub returns-in-Block : goal.returns-in-Block
-returns-in-Block c =
-    let block_of : Opened c.args.n c.args.s.now c.in-Block.x =
-    opened _ _ _ _ c.in-Block.is c.unpack-unpacked.ensures
-    in
-    let a = c.args in
-    let block = block_of in
-    c.value_at.ensures
-    ∙ ap (λ (b : Block). answered (row_refusal a.n a.row) 0 (block_value b a.row)) block.parts
-    ∙ leaves-row _ a.s.now _ block.none
+pub returns-then-n-row : goal.returns-then-n-row
+returns-then-n-row c =
+    let block = opened _ _ _ _ c.in_ok-x.was c.unpack.ensures in
+    refuses-13 _ _ _ (omega (arith, rows_few _ block.within)) ∙ leaves-row _ _ _ block.none
+
+pub overflow_cast-row : goal.overflow_cast-row
+overflow_cast-row c =
+    let block = opened _ _ _ _ c.in_ok-x.was c.unpack.ensures in
+    record { fits = omega (arith, rows_few _ block.within) }
+
+pub returns : goal.returns
+returns c =
+    let block = opened _ _ _ _ c.in_ok-x.was c.unpack.ensures in
+    ap (answer 0) (c.block_value.ensures ∙ ap (λ (b : Block). block_value b c.args.row) block.parts)
+    ∙ gives-bit _ _ _ (omega (arith, rows_few _ block.within))
+    ∙ leaves-row _ _ _ block.none

@@ -1,54 +1,21 @@
 -- `blif::lines::gather` meets its contract: what is gathered and the lines still to come make what all
 -- the lines make. Assumes nothing.
-use Rattle.std.proofs.Common.{rules}
-use native.Mathlib.Omega.{arith}
-use Rattle.words.proofs.LineLaws.{NextLine}
-use Rattle.blif.proofs.StartLaws.{sought-line}
-use Rattle.blif.proofs.GatherLaws.{gathers-start, gathers-next, gathers-over}
+use Rattle.std.proofs.lemmas.Result.{err_from_is_err_and}
+use Rattle.blif.proofs.GatherLaws.{gathers-start, gathers-line, gathers-none, gathers-end}
 use Rattle.blif.proofs.lines.gather.Goals as goal
 
-pub loop-i-init : goal.loop-i-init
-loop-i-init c =
-    (c.requires, gathers-start _ _)
+pub loop-line-init : goal.loop-line-init
+loop-line-init c = (tt, tt, rw c.into_iter-line-iterator.ensures.into_iter_gives (gathers-start _ _))
 
-pub slice_bounds-add-count : goal.slice_bounds-add-count
-slice_bounds-add-count c =
-    let line : (NextLine c.args.text.now c.loop-i.i c.next_line-line.result) =
-    sought-line _ _ _ (search rules) c.next_line-line.ensures
-    in
-    (line).from
+pub loop-line-preserved : goal.loop-line-preserved
+loop-line-preserved c =
+    (tt, tt, gathers-line _ _ _ _ _ c.in-Some.ensures.steps _ c.loop-line.invariant.2 _ c.in_ok-g.ensures)
 
-pub slice_bounds-add-start : goal.slice_bounds-add-start
-slice_bounds-add-start c =
-    let line : (NextLine c.args.text.now c.loop-i.i c.next_line-line.result) =
-    sought-line _ _ _ (search rules) c.next_line-line.ensures
-    in
-    omega (arith, (line).from, (line).within)
-
-pub slice_bounds-add-end : goal.slice_bounds-add-end
-slice_bounds-add-end c =
-    let line : (NextLine c.args.text.now c.loop-i.i c.next_line-line.result) =
-    sought-line _ _ _ (search rules) c.next_line-line.ensures
-    in
-    omega (arith, (line).within)
-
-pub loop-i-smaller : goal.loop-i-smaller
-loop-i-smaller c =
-    let line : (NextLine c.args.text.now c.loop-i.i c.next_line-line.result) =
-    sought-line _ _ _ (search rules) c.next_line-line.ensures
-    in
-    let found = line in omega (arith, found.onward, found.next-within)
-
-pub loop-i-preserved : goal.loop-i-preserved
-loop-i-preserved c =
-    let line : (NextLine c.args.text.now c.loop-i.i c.next_line-line.result) =
-    sought-line _ _ _ (search rules) c.next_line-line.ensures
-    in (
-      (line).next-within,
-      gathers-next _ _ _ _ _ _ _ (line) c.add-g.ensures c.loop-i.invariant.1,
-    )
+pub returns-in_err-g : goal.returns-in_err-g
+returns-in_err-g c =
+    let p = err_from_is_err_and c.from_residual.result c.from_residual.ensures.1 in
+    let other = c.in_err-g.ensures in
+    rw (p.1, p.2) (other.0, gathers-none _ _ _ _ _ c.in-Some.ensures.steps _ c.loop-line.invariant.2 other.1)
 
 pub returns : goal.returns
-returns c =
-    let text = c.args.text.now in
-    gathers-over _ _ text c.loop-i.i _ (search rules) c.loop-i.invariant.1
+returns c = gathers-end _ _ _ _ c.in-None.ensures.steps.0 c.loop-line.invariant.2

@@ -1,14 +1,11 @@
 -- `blif::lines::gather` meets its contract: what is gathered and the lines still to come make what all
 -- the lines make. Assumes nothing.
-use Prim.Native.Nat.{◌-◌, ◌≤◌}
-use lib.ListN.{length, drop}
-use Rattle.words.specs.Text.{content_of}
+use Rattle.words.specs.Left.{lines_left}
 use Rattle.blif.proofs.GatherLaws.{GathersOn}
 use Rattle.blif.proofs.lines.gather.Given as goal
 
-abbrev pub invariant-loop-i : goal.invariant-loop-i
-invariant-loop-i l =
-    (l.i ≤ length l.text) × GathersOn l.inputs (content_of (drop l.at l.text)) (content_of (drop l.i l.text)) l.g
-
-abbrev pub decreases-loop-i : goal.decreases-loop-i
-decreases-loop-i l = length l.text - l.i
+abbrev pub invariant-loop-line : goal.invariant-loop-line
+invariant-loop-line l =
+    ((goal.iterator-loop-line).can_next l.line-iterator)
+    × ((goal.iterator-loop-line).is_finite l.line-iterator)
+    × GathersOn l.inputs (lines_left l.fn.lines) (lines_left l.line-iterator) l.g

@@ -1,56 +1,24 @@
--- `blif::names::repeats` meets its contract: no word passed comes again, so those from the place in
--- hand on decide. Assumes nothing.
-use Rattle.std.proofs.Common.{rules}
-use mathlib.Core.Path.{sym, ◌∙◌}
-use native.Mathlib.Omega.{arith}
-use Rattle.blif.proofs.SplitLaws.{sought}
-use Rattle.blif.proofs.NameLaws.{words-end, repeats-here, repeats-on, repeats-none}
+-- `blif::names::repeats` meets its contract: no word passed comes again, so those that are left decide.
+-- Assumes nothing.
+use Rattle.std.proofs.Common.{rules, tests, eqb, refl, ◌∙◌}
+use lib.Pointwise.{pointwise}
+use Rattle.std.proofs.lemmas.Iterator.Consumers.{YieldsList-from_first}
+use Rattle.std.proofs.lemmas.Iterator.Search.{any_from_yields_List}
+use Rattle.words.specs.Left.{words_left}
+use Rattle.blif.proofs.NameLaws.{repeats-here, repeats-on, repeats-none}
 use Rattle.blif.proofs.names.repeats.Goals as goal
 
-pub returns-then-start-end : goal.returns-then-start-end
-returns-then-start-end c =
-    let inv = c.loop-i.invariant in
-    repeats-none _ ((sought _ _ _ c.next_word-word.ensures).none c.if-start-end.true) ∙ inv.1
+pub returns-then-any : goal.returns-then-any
+returns-then-any c =
+    let again = any_from_yields_List (pointwise eqb c.in-Some.name.now) c.any.new.self _ c.any.result c.any.ensures.ran
+    (YieldsList-from_first (λ x. x.now) words_left _ (refl {a = words_left c.next.new.self})) (λ x b q k. search (rules, tests)) in
+    repeats-here _ _ _ c.in-Some.ensures.steps _ again c.if-any.true ∙ c.loop-name.invariant.2
 
-pub slice_bounds-occurs-count : goal.slice_bounds-occurs-count
-slice_bounds-occurs-count c =
-    (sought _ _ _ c.next_word-word.ensures).ordered
-
-pub slice_bounds-occurs-start : goal.slice_bounds-occurs-start
-slice_bounds-occurs-start c =
-    let ordered = (sought _ _ _ c.next_word-word.ensures).ordered in omega arith
-
-pub slice_bounds-occurs-end : goal.slice_bounds-occurs-end
-slice_bounds-occurs-end c =
-    let inv = c.loop-i.invariant in
-    let within = (sought _ _ _ c.next_word-word.ensures).within inv.0 in
-    omega arith
-
-pub occurs-requires : goal.occurs-requires
-occurs-requires c =
-    let inv = c.loop-i.invariant in
-    (sought _ _ _ c.next_word-word.ensures).within inv.0
-
-pub returns-then-occurs : goal.returns-then-occurs
-returns-then-occurs c =
-    let inv = c.loop-i.invariant in
-    let next = sought _ _ _ c.next_word-word.ensures in
-    repeats-here _ _ _ next c.if-start-end.false (sym c.if-occurs.true ∙ c.occurs.ensures) ∙ inv.1
-
-pub loop-i-smaller : goal.loop-i-smaller
-loop-i-smaller c =
-    let next = sought _ _ _ c.next_word-word.ensures in
-    let some = c.if-start-end.false in
-    search rules
-
-pub loop-i-preserved : goal.loop-i-preserved
-loop-i-preserved c =
-    let inv = c.loop-i.invariant in
-    let next = sought _ _ _ c.next_word-word.ensures in (
-      next.within inv.0,
-      repeats-on _ _ _ next c.if-start-end.false (sym c.if-occurs.false ∙ c.occurs.ensures) ∙ inv.1,
-    )
+pub loop-name-preserved : goal.loop-name-preserved
+loop-name-preserved c =
+    let again = any_from_yields_List (pointwise eqb c.in-Some.name.now) c.any.new.self _ c.any.result c.any.ensures.ran
+    (YieldsList-from_first (λ x. x.now) words_left _ (refl {a = words_left c.next.new.self})) (λ x b q k. search (rules, tests)) in
+    (tt, tt, repeats-on _ _ _ c.in-Some.ensures.steps _ again c.if-any.false ∙ c.loop-name.invariant.2)
 
 pub returns : goal.returns
-returns c =
-    repeats-none _ (words-end _ _ c.loop-i-test.false) ∙ c.loop-i.invariant.1
+returns c = repeats-none _ c.in_default.ensures.steps.0 ∙ c.loop-name.invariant.2

@@ -1,9 +1,0 @@
--- `ask::words::are_numbers` is safe and ends. Assumes nothing.
-use Prim.Native.Nat.{◌-◌}
-use Rattle.ask.proofs.words.are_numbers.Given as goal
-
-abbrev pub invariant-loop-i : goal.invariant-loop-i
-invariant-loop-i l = Unit {0}
-
-abbrev pub decreases-loop-i : goal.decreases-loop-i
-decreases-loop-i l = l.to - l.i

@@ -1,0 +1,10 @@
+-- `words::Lines::next` meets its contract: the lines passed have no words. Assumes nothing.
+use Rattle.std.proofs.Common.{◌≡◌, length}
+use Rattle.words.specs.Text.{content_of}
+use Rattle.words.proofs.LinesIterator.next.Given as goal
+
+abbrev pub invariant-loop-text : goal.invariant-loop-text
+invariant-loop-text l = content_of l.self.rest.now ≡ content_of l.initial.self.rest.now
+
+abbrev pub decreases-loop-text : goal.decreases-loop-text
+decreases-loop-text l = length l.self.rest.now
