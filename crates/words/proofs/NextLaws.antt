@@ -1,13 +1,14 @@
 -- The next word of a line, and what is left after it. Assumes nothing.
 use mathlib.Core.Path.{◌≡◌, refl, sym, ap, ◌∙◌}
+use mathlib.Core.Bool.{true, false}
 use mathlib.Core.List.{List, [], ◌∷◌}
 use Prim.Native.Nat.{ℕ, ◌-◌, ◌≤◌, ◌<◌}
 use native.Mathlib.Nat.{add-sub_cancel_left}
 use native.Mathlib.Omega.{arith}
 use Rattle.std.proofs.Math.Numerals.{one-add}
 use lib.Dec.{eqb}
-use lib.ListN.{length, take, drop, take-append-drop, length-drop}
-use lib.Seq.{drop-drop, length-take-le}
+use lib.ListN.{length, take, drop, get_or, take-append-drop, length-drop, drop_of_length-le}
+use lib.Seq.{drop-cons, drop-drop, length-take-le}
 use borrow.Author.Tests.{lt-ltb, eqb-true}
 use Rattle.bits.proofs.SearchLaws.{byBool}
 use Rattle.words.specs.declared.Span.{Span}
@@ -63,6 +64,26 @@ module _ (line : List ℕ) (at : ℕ) where
   gap-over : prefix_len separates (drop (past separates line at) line) ≡ 0
   gap-over =
       rw (sym (drop-drop (prefix_len separates (drop at line)) at line)) (prefix-after separates (drop at line))
+
+-- a line has words if its first byte that is no separator begins one
+module _ (line : List ℕ) (start : ℕ) (is : start ≡ past separates line 0) where
+  seen-from : words_of line ≡ words_of (drop start line)
+  seen-from = rw is (words-from line 0)
+
+  module _ (l : start < length line) where
+    pub words-seen : in_word (get_or line start 0) ≡ true → 0 < length (words_of line)
+    words-seen e =
+        let some : 0 < prefix_len in_word (drop start line) = rw (drop-cons line start 0 l, e) (omega arith) in
+        rw (seen-from, words-front (drop start line) some) (omega arith)
+
+    pub words-unseen : in_word (get_or line start 0) ≡ false → words_of line ≡ []
+    words-unseen e =
+        let gap : prefix_len separates (drop start line) ≡ 0 = rw is (gap-over line 0) in
+        let none : prefix_len in_word (drop start line) ≡ 0 = rw (drop-cons line start 0 l, e) refl in
+        seen-from ∙ words-over (drop start line) gap none
+
+  pub words-past : length line ≤ start → words_of line ≡ []
+  words-past l = seen-from ∙ rw (drop_of_length-le line l) words-none
 
 pub next-word-is : (line : List ℕ) (at : ℕ) → Next line at (next_word line at)
 unfolding next_word

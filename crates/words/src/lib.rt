@@ -157,11 +157,16 @@ impl<'a> Iterator for Words<'a> {
     }
 }
 
+// By its first byte that is no separator: the word is looked for when it is asked for.
 fn has_words(line: &[u8]) -> bool
     ensures some { result ≡ true → 0 < length (words_of line.now) }
     ensures none { result ≡ false → words_of line.now ≡ [] }
 {
-    Words::of(line).next().is_some()
+    let start = past(line, 0, is_separator);
+    if line.len() <= start {
+        return false;
+    }
+    is_in_word(line[start])
 }
 
 // The lines of a text that are left and have words, as parts of the text.
