@@ -22,7 +22,7 @@ pub(crate) fn repeats(words: Words) -> bool
     let mut rest = words;
     while let Some(name) = rest.next() {
         let mut others = rest;
-        if others.any(|other| name == other) {
+        if others.any(|other| words::same(name, other)) {
             return true;
         }
     }
@@ -35,11 +35,18 @@ pub(crate) fn open(line: &[u8]) -> Result<Names, Refusal>
 {
     let mut words = Words::of(line);
     let first = words.next().ok_or(Refusal::NoCover)?;
-    let many = words.count();
-    let mut tried = words;
-    let starts = first == b".names".as_slice();
-    let named = tried.all(|name| bytes::is_name(name));
-    if !(starts & ((0 < many) & named)) {
+    if !words::same(first, b".names") {
+        return Err(Refusal::NoCover);
+    }
+    // Tried and counted in one walk: a second one over many names would show.
+    let mut many = 0;
+    for name in words {
+        if !bytes::is_name(name) {
+            return Err(Refusal::NoCover);
+        }
+        many += 1;
+    }
+    if many == 0 {
         return Err(Refusal::NoCover);
     }
     Ok(Names {

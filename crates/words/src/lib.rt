@@ -2,7 +2,7 @@
 
 #![tactic(auto)]
 
-ghost use Rattle.std.specs.Prelude.{◌≡◌, ℕ, ◌<◌, Bool, true, false, [], length};
+ghost use Rattle.std.specs.Prelude.{◌≡◌, ℕ, ◌<◌, Bool, [], length, None, IfSome};
 ghost use Rattle.bits.specs.Tests.{alike};
 ghost use Rattle.words.specs.Text.{separates};
 ghost use Rattle.std.specs.Iterator.{YieldsFirstRef, YieldsFirstBy, item_count};
@@ -157,19 +157,23 @@ impl<'a> Iterator for Words<'a> {
     }
 }
 
-// By its first byte that is no separator: the word is looked for when it is asked for.
-fn has_words(line: &[u8]) -> bool
-    ensures some { result ≡ true → 0 < length (words_of line.now) }
-    ensures none { result ≡ false → words_of line.now ≡ [] }
+// The line from its first word on, if it has one: its first byte that is no separator decides.
+fn from_first_word(line: &[u8]) -> Option<&[u8]>
+    ensures some { IfSome result (λ rest. (words_of rest.now ≡ words_of line.now) × (0 < length (words_of line.now))) }
+    ensures none { result ≡ None → words_of line.now ≡ [] }
 {
     let start = past(line, 0, is_separator);
     if line.len() <= start {
-        return false;
+        return None;
     }
-    is_in_word(line[start])
+    if !is_in_word(line[start]) {
+        return None;
+    }
+    let (_, rest) = line.split_at(start);
+    Some(rest)
 }
 
-// The lines of a text that are left and have words, as parts of the text.
+// The lines of a text that are left and have words, from the first word on, as parts of the text.
 #[derive(Clone, Copy)]
 pub struct Lines<'a> {
     pub rest: &'a [u8],
@@ -197,7 +201,7 @@ impl<'a> Iterator for Lines<'a> {
             let (_, rest) = text.split_at(line.next);
             self.rest = rest;
             let (line, _) = text.split_at(line.end);
-            if has_words(line) {
+            if let Some(line) = from_first_word(line) {
                 return Some(line);
             }
         }
