@@ -1,16 +1,17 @@
 -- What a buffer holds of a reader's bytes after one more read. Assumes nothing.
-use Rattle.std.proofs.Common.{◌≡◌, ℕ, ◌+◌, ◌-◌, ◌≤◌, ◌<◌, List, ◌++◌, arith, length, take, slice_range, sym, ap, ◌∙◌, subst, le_refl, drop_at, length-take-le}
+use Rattle.std.proofs.Common.{◌≡◌, ℕ, ◌+◌, ◌-◌, ◌≤◌, ◌<◌, List, ◌++◌, arith, length, take, slice_range, sym, ap, ◌∙◌, subst, le_refl, drop_at, length-take-le, refl}
 use Rattle.std.proofs.lemmas.Slice.{take-put_mid_below}
-use Rattle.std.specs.Prelude.{Ok, Option}
+use Rattle.std.specs.Prelude.{Ok, Err, Option}
+use Rattle.std.specs.Result.{result_unwrap_or}
 use Rattle.std.specs.declared.result.Result.{Result}
 use Rattle.std.specs.declared.io.Error.{Error}
 use Rattle.std.specs.Io.{ReadsAtMost}
 use Rattle.std.specs.Io.KnownBytes.{Consumes, ReadConsumes}
-use Rattle.std.proofs.KnownBytes.{Consumes-trans}
+use Rattle.std.proofs.KnownBytes.{Consumes-trans, Consumes-kept}
 use borrow.Rule.Slice.PartMut.{put_mid, post_of}
 use lib.Seq.{take-add, take-append-le}
-use Rattle.input.specs.declared.Input.TheVariants.{Whole}
-use Rattle.input.specs.Input.{Reads}
+use Rattle.input.specs.declared.Input.{Input}
+use Rattle.input.specs.Input.{ended_by, LeavesRoom, Reads}
 
 take_split : (a b : ℕ) (old new : List ℕ) → a ≤ b → take a new ≡ take a old → take a old ++ slice_range new a b ≡ take b new
 take_split a b old new h front =
@@ -29,21 +30,34 @@ joined a k n xs ys within fits =
     let part = slice_range-put_mid a k n xs ys within fits in
     ap (λ l. take a xs ++ l) (sym part) ∙ take_split a (a + n) xs (put_mid a k xs ys) (omega arith) (take-put_mid_below _ _ _ _ _ (le_refl _) within)
 
+-- a read that fails, or brings nothing, leaves what stands before the place
+pub kept : (a k : ℕ) (xs ys : List ℕ) → a ≤ length xs → take a (put_mid a k xs ys) ≡ take a xs
+kept a k xs ys within = take-put_mid_below _ _ _ _ _ (le_refl _) within
+
 -- what was read, and what one more read brings
-module _ (had mid left : Option (List ℕ)) (got : Result ℕ Error) (n used k : ℕ) (xs ys : List ℕ) (is : got ≡ Ok n) (within : used ≤ length xs)
-    (before : Consumes had mid (take used xs)) (most : ReadsAtMost got ys) (reads : ReadConsumes mid left got ys) where
-  fits : ReadsAtMost {E = Error} (Ok n) ys
-  fits = subst (λ r. ReadsAtMost r ys) is most
+pub grown : (had mid left : Option (List ℕ)) (got : Result ℕ Error) (more used k : ℕ) (xs ys : List ℕ) → more ≡ result_unwrap_or got 0 → used ≤ length xs
+    → Consumes had mid (take used xs) → ReadsAtMost got ys → ReadConsumes mid left got ys → Consumes had left (take (used + more) (put_mid used k xs ys))
+grown had mid left (Ok n) more used k xs ys is within before fits read =
+    let same = ap (λ m. take (used + m) (put_mid used k xs ys)) (sym is) in
+    subst (Consumes had left) (joined used k n xs ys within fits.0 ∙ same) (Consumes-trans _ _ _ _ _ before read.0)
+grown had mid left (Err why) more used k xs ys is within before fits read =
+    let none : used ≡ used + more = omega arith in
+    let same = ap (λ m. take m (put_mid used k xs ys)) none in
+    subst (Consumes had left) (sym (kept used k xs ys within) ∙ same) (Consumes-kept _ _ _ _ before read)
 
-  read : ReadConsumes {E = Error} mid left (Ok n) ys
-  read = subst (λ r. ReadConsumes mid left r ys) is reads
+-- a read that brings nothing tells how the input ended
+pub told : (had mid left : Option (List ℕ)) (got : Result ℕ Error) (used k : ℕ) (xs ys : List ℕ) (r : Result Input Error) → r ≡ ended_by got used → result_unwrap_or got 0 ≡ 0
+    → used ≤ length xs → 0 < length ys → Consumes had mid (take used xs) → ReadsAtMost got ys → ReadConsumes mid left got ys → Reads had left r (put_mid used k xs ys)
+unfolding ended_by Reads
+told had mid left (Ok n) used k xs ys r is none within room before fits read =
+    let all = grown had mid left (Ok n) n used k xs ys refl within before fits read in
+    let same : used + n ≡ used = omega arith in
+    rw is
+    (subst (λ m. Consumes had left (take m (put_mid used k xs ys))) same all, read.1 none room)
+told had mid left (Err why) used k xs ys r is none within room before fits read = rw is tt
 
-  pub grown : Consumes had left (take (used + n) (put_mid used k xs ys))
-  grown = subst (Consumes had left) (joined used k n xs ys within fits.0) (Consumes-trans _ _ _ _ _ before read.0)
-
-  -- a read that brings nothing is the end
-  pub ended : n ≡ 0 → 0 < length ys → Reads had left (Ok (Whole used)) (put_mid used k xs ys)
-  unfolding Reads
-  ended none room =
-      let same : used + n ≡ used = omega arith in
-      (subst (λ m. Consumes had left (take m (put_mid used k xs ys))) same grown, read.1 none room)
+-- what ended before the buffer was full leaves room
+pub room_left : (got : Result ℕ Error) (used room : ℕ) (r : Result Input Error) → r ≡ ended_by got used → used < room → LeavesRoom r room
+unfolding LeavesRoom ended_by
+room_left (Ok k) used room r e below = rw e below
+room_left (Err why) used room r e below = rw e tt

@@ -6,6 +6,11 @@ use Rattle.std.specs.declared.io.Error.{Error}
 use Rattle.input.specs.declared.Input.{Input}
 use Rattle.input.specs.declared.Input.TheVariants.{Whole, Longer}
 
+-- a read that brings nothing is the end of the input if it succeeds; one that does not has failed
+unfoldable pub ended_by : (got : Result ℕ Error) (used : ℕ) → Result Input Error
+ended_by (Ok k) used = Ok (Whole used)
+ended_by (Err why) used = Err why
+
 -- input that was read whole left room
 unfoldable pub LeavesRoom : Result Input Error → (room : ℕ) → Type 0
 LeavesRoom (Ok (Whole used)) room = used < room

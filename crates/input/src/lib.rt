@@ -3,7 +3,7 @@
 #![tactic(auto)]
 
 ghost use Rattle.std.specs.Prelude.{◌≡◌, length};
-ghost use Rattle.input.specs.Input.{LeavesRoom, Reads, AreZeros};
+ghost use Rattle.input.specs.Input.{ended_by, LeavesRoom, Reads, AreZeros};
 
 use std::io;
 use std::io::Read;
@@ -15,6 +15,15 @@ pub enum Input {
     Longer,
 }
 
+// How the input ended, by what the read that brought nothing answered.
+#[tactic(auto, unfolding(crate::specs::Input::ended_by))]
+fn ended(got: io::Result<usize>, used: usize) -> io::Result<Input>
+    ensures { result ≡ ended_by got used }
+{
+    got?;
+    Ok(Input::Whole(used))
+}
+
 // Reads into the buffer until the input ends. A failed read is no end of the input, and input that
 // fills the buffer is not taken for whole.
 pub fn read<R: Read>(from: &mut R, buf: &mut [u8]) -> io::Result<Input>
@@ -24,9 +33,10 @@ pub fn read<R: Read>(from: &mut R, buf: &mut [u8]) -> io::Result<Input>
     let mut used = 0;
     // How much is read is the answer, and each read says how much more: no loop goes over the bytes.
     while used < buf.len() {
-        let more = from.read(&mut buf[used..])?;
+        let got = from.read(&mut buf[used..]);
+        let more = got.unwrap_or(0);
         if more == 0 {
-            return Ok(Input::Whole(used));
+            return ended(got, used);
         }
         used += more;
     }

@@ -14,12 +14,13 @@ use Rattle.bits.specs.Tests.{pick}
 use Rattle.bits.proofs.TestLaws.{both_left, both_right}
 use Rattle.bits.proofs.SearchLaws.{byBool}
 use Rattle.words.specs.declared.Ends.{Ends}
-use Rattle.words.specs.Text.{line_feed, carriage_return, ends, filled, words_of, content_of}
+use Rattle.words.specs.Text.{line_feed, carriage_return, ends, filled, separates, words_of, content_of}
 use Rattle.std.specs.List.{prefix_len}
 use Rattle.words.specs.Next.{in_line, past, next_line, unreturned, ends_cr_lf, line_end}
 use Rattle.std.proofs.lemmas.List.Sums.{prefix_len-le-length}
 use Rattle.words.proofs.PrefixLaws.{prefix-passes, prefix-after}
-use Rattle.words.proofs.TextLaws.{words-none, content-line, content-last}
+use Rattle.words.proofs.TextLaws.{words-none, content-gap, content-line, content-last}
+use Rattle.std.proofs.Math.Numerals.{one-add}
 
 -- the last byte, by its place
 ends_last : (b : ℕ) (l : List ℕ) → ends b l ≡ ltb 0 (length l) && eqb (get_or l (length l - 1) 0) b
@@ -199,3 +200,22 @@ module _ (text : List ℕ) (line : Ends) (inside : eqb (length text) 0 ≡ false
 pub lines-over : (text : List ℕ) → eqb (length text) 0 ≡ true → content_of text ≡ []
 lines-over [] over = content-none
 lines-over (b ∷ text) over = absurd (omega (arith, eqb-true _ _ over))
+
+-- separators in front of a text are in no line's words
+content-skip : (s : List ℕ) → content_of s ≡ content_of (drop (prefix_len separates s) s)
+content-skip [] = refl
+content-skip (b ∷ s) =
+    byBool (separates b)
+    (λ e. rw (e, one-add (prefix_len separates s), content-gap b s e) (content-skip s))
+    (λ e. rw e)
+
+-- the text from its first byte on that is no separator
+module _ (text rest : List ℕ) (start : ℕ) (is : start ≡ past separates text 0) (after : rest ≡ drop start text) where
+  from-start : rest ≡ drop (prefix_len separates text) text
+  from-start = let e : start ≡ prefix_len separates text = omega (arith, is) in after ∙ ap (λ k. drop k text) e
+
+  pub content-from : content_of rest ≡ content_of text
+  content-from = ap content_of from-start ∙ sym (content-skip text)
+
+  pub separators-over : prefix_len separates rest ≡ 0
+  separators-over = rw from-start (prefix-after separates text)

@@ -67,7 +67,7 @@ module _ (line : List ℕ) (at : ℕ) where
 
 -- a line has words if its first byte that is no separator begins one
 module _ (line : List ℕ) (start : ℕ) (is : start ≡ past separates line 0) where
-  pub seen-from : words_of line ≡ words_of (drop start line)
+  seen-from : words_of line ≡ words_of (drop start line)
   seen-from = rw is (words-from line 0)
 
   module _ (l : start < length line) where

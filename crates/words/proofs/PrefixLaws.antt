@@ -3,9 +3,11 @@ use Rattle.std.specs.List.{prefix_len}
 use mathlib.Core.Path.{◌≡◌, refl}
 use mathlib.Core.Bool.{Bool, true}
 use mathlib.Core.List.{List, [], ◌∷◌}
-use Prim.Native.Nat.{ℕ}
+use Prim.Native.Nat.{ℕ, zero, suc}
+use native.Mathlib.Omega.{arith}
 use Rattle.std.proofs.Math.Numerals.{one-add}
 use lib.ListN.{take, drop}
+use lib.Seq.{take-nil}
 use Rattle.bits.specs.Tests.{every}
 use Rattle.bits.proofs.SearchLaws.{byBool}
 
@@ -21,3 +23,10 @@ module _ (test : ℕ → Bool) where
   prefix-after [] = refl
   prefix-after (b ∷ s) =
       byBool (test b) (λ e. rw (e, one-add (prefix_len test s)) (prefix-after s)) (λ e. rw (e, e))
+
+  -- nor does a front part of what begins with none
+  pub prefix-front : (s : List ℕ) (n : ℕ) → prefix_len test s ≡ 0 → prefix_len test (take n s) ≡ 0
+  prefix-front [] n none = rw (take-nil n)
+  prefix-front (b ∷ s) zero none = refl
+  prefix-front (b ∷ s) (suc n) none =
+      byBool (test b) (λ e. absurd (let z = rw e at none in omega arith)) (λ e. rw e)

@@ -111,6 +111,25 @@ filled-append [] ys = refl
 filled-append ([] ∷ xs) ys = filled-append xs ys
 filled-append ((x ∷ first) ∷ xs) ys = ap (λ rest. (x ∷ first) ∷ rest) (filled-append xs ys)
 
+-- a separator ends no line
+separator-inside : (b : ℕ) → separates b ≡ true → (eqb b line_feed ≡ false) × (eqb b carriage_return ≡ false)
+separator-inside b e = (
+  byBool (eqb b line_feed) (λ h. clash (rw (eqb-true b line_feed h) at e) refl) (λ h. h),
+  byBool (eqb b carriage_return) (λ h. clash (rw (eqb-true b carriage_return h) at e) refl) (λ h. h),
+)
+
+-- and in front of a line is in no word
+extended-gap : (b : ℕ) (lines : List (List ℕ)) → separates b ≡ true
+    → filled (map words_of (extended b lines)) ≡ filled (map words_of lines)
+extended-gap b [] e = rw (words-gap b [] e, words-none)
+extended-gap b (first ∷ others) e = rw (words-gap b first e)
+
+pub content-gap : (b : ℕ) (rest : List ℕ) → separates b ≡ true → content_of (b ∷ rest) ≡ content_of rest
+unfolding content_of lines_of
+content-gap b rest e =
+    let inside = separator-inside b e in
+    rw (inside.0, inside.1) (extended-gap b (lines_of rest) e)
+
 pub content-line : (line rest : List ℕ) → every in_line line ≡ true
     → content_of (line ++ line_feed ∷ rest) ≡ filled (words_of (unreturned line) ∷ []) ++ content_of rest
 unfolding content_of

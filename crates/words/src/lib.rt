@@ -2,7 +2,8 @@
 
 #![tactic(auto)]
 
-ghost use Rattle.std.specs.Prelude.{◌≡◌, ℕ, ◌<◌, Bool, [], length, None, IfSome};
+ghost use Rattle.std.specs.Prelude.{◌≡◌, ℕ, ◌<◌, ◌≤◌, Bool, true, false, [], length};
+ghost use Rattle.std.specs.List.{prefix_len};
 ghost use Rattle.bits.specs.Tests.{alike};
 ghost use Rattle.words.specs.Text.{separates};
 ghost use Rattle.std.specs.Iterator.{YieldsFirstRef, YieldsFirstBy, item_count};
@@ -157,23 +158,29 @@ impl<'a> Iterator for Words<'a> {
     }
 }
 
-// The line from its first word on, if it has one: its first byte that is no separator decides.
-fn from_first_word(line: &[u8]) -> Option<&[u8]>
-    ensures some { IfSome result (λ rest. (words_of rest.now ≡ words_of line.now) × (0 < length (words_of line.now))) }
-    ensures none { result ≡ None → words_of line.now ≡ [] }
+// The text from its first byte on that is no separator: blanks and tabs in front of a line are in no word.
+fn unindented(text: &[u8]) -> &[u8]
+    ensures same { content_of result.now ≡ content_of text.now }
+    ensures first { prefix_len separates result.now ≡ 0 }
+    ensures within { length result.now ≤ length text.now }
 {
-    let start = past(line, 0, is_separator);
-    if line.len() <= start {
-        return None;
-    }
-    if !is_in_word(line[start]) {
-        return None;
-    }
-    let (_, rest) = line.split_at(start);
-    Some(rest)
+    let (_, rest) = text.split_at(past(text, 0, is_separator));
+    rest
 }
 
-// The lines of a text that are left and have words, from the first word on, as parts of the text.
+// By its first byte: the word is looked for when it is asked for.
+fn has_words(line: &[u8]) -> bool
+    requires { prefix_len separates line.now ≡ 0 }
+    ensures some { result ≡ true → 0 < length (words_of line.now) }
+    ensures none { result ≡ false → words_of line.now ≡ [] }
+{
+    if line.is_empty() {
+        return false;
+    }
+    is_in_word(line[0])
+}
+
+// The lines of a text that are left and have words, without what separates in front, as parts of the text.
 #[derive(Clone, Copy)]
 pub struct Lines<'a> {
     pub rest: &'a [u8],
@@ -195,15 +202,16 @@ impl<'a> Iterator for Lines<'a> {
     ghost remaining = { item_count lines_left };
 
     fn next(&mut self) -> Option<&'a [u8]> {
-        while !self.rest.is_empty() {
-            let text = self.rest;
+        let mut text = unindented(self.rest);
+        while !text.is_empty() {
             let line = next_line(text, 0);
             let (_, rest) = text.split_at(line.next);
             self.rest = rest;
             let (line, _) = text.split_at(line.end);
-            if let Some(line) = from_first_word(line) {
+            if has_words(line) {
                 return Some(line);
             }
+            text = unindented(rest);
         }
         None
     }

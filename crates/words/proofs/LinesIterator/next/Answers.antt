@@ -1,20 +1,20 @@
 -- `words::Lines::next` meets its contract: the lines passed have no words. Assumes nothing.
-use Rattle.std.proofs.Common.{◌≡◌, List, ◌∷◌, length, refl, sym, ap, ◌∙◌}
+use Rattle.std.proofs.Common.{◌≡◌, ◌∷◌, length, refl, sym, ap, ◌∙◌}
 use native.Mathlib.Omega.{arith}
-use Rattle.words.specs.Text.{Word, words_of, content_of}
+use Rattle.words.specs.Text.{separates, words_of, content_of}
+use Rattle.words.proofs.PrefixLaws.{prefix-front}
 use Rattle.words.proofs.LineLaws.{line-sought, line-first, line-passed, lines-over}
-use Rattle.words.proofs.LinesIterator.next.Goals.{In-Some}
+use Rattle.words.proofs.LinesIterator.next.Goals.{Then-has_words}
 use Rattle.words.proofs.LinesIterator.next.Goals as goal
 
 -- the line in front, where it has words
-first : (c : In-Some) → content_of c.args.self.now.rest.now
-    ≡ words_of c.in-Some.line.now ∷ content_of c.split_at.result.1.now
+first : (c : Then-has_words) → content_of c.args.self.now.rest.now
+    ≡ words_of c.split_at-in-loop-text.result.0.now ∷ content_of c.split_at.result.1.now
 first c =
-    let seen = c.in-Some.ensures.some in
-    sym c.loop-text.invariant
+    let some = c.has_words.ensures.some c.if-has_words.true in
+    sym c.loop-text.invariant.0
     ∙ line-first _ _ (sym c.is_empty.ensures ∙ c.loop-text-test.true) c.next_line-line.ensures _ _
-    c.split_at-in-loop-text.ensures.front c.split_at.ensures.back seen.1
-    ∙ ap (λ (words : List Word). words ∷ content_of c.split_at.result.1.now) (sym seen.0)
+    c.split_at-in-loop-text.ensures.front c.split_at.ensures.back some
 
 pub split_at-requires : goal.split_at-requires
 split_at-requires c =
@@ -24,28 +24,38 @@ pub split_at-requires-in-loop-text : goal.split_at-requires-in-loop-text
 split_at-requires-in-loop-text c =
     (line-sought _ _ (sym c.is_empty.ensures ∙ c.loop-text-test.true) c.next_line-line.ensures).within
 
-pub returns-in-Some-clause-steps : goal.returns-in-Some-clause-steps
-returns-in-Some-clause-steps c = first c
+pub returns-then-has_words-clause-steps : goal.returns-then-has_words-clause-steps
+returns-then-has_words-clause-steps c = first c
 
-pub returns-in-Some-clause-goes : goal.returns-in-Some-clause-goes
-returns-in-Some-clause-goes c =
+pub returns-then-has_words-clause-goes : goal.returns-then-has_words-clause-goes
+returns-then-has_words-clause-goes c =
     record { on = λ _. (tt, tt, omega (arith, ap length (first c))); keeps = tt; rests = λ _. tt }
+
+pub loop-text-init : goal.loop-text-init
+loop-text-init c = (c.unindented-text.ensures.same, refl, c.unindented-text.ensures.first)
+
+pub has_words-requires : goal.has_words-requires
+has_words-requires c =
+    rw c.split_at-in-loop-text.ensures.front
+    (prefix-front separates c.loop-text.text.now c.next_line-line.result.end c.loop-text.invariant.2)
 
 pub loop-text-smaller : goal.loop-text-smaller
 loop-text-smaller c =
     let line = line-sought _ _ (sym c.is_empty.ensures ∙ c.loop-text-test.true) c.next_line-line.ensures in
     let onward = line.onward in
     let within = line.next-within in
-    omega (arith, c.split_at.ensures.back_len)
+    omega (arith, c.split_at.ensures.back_len, c.unindented-text-in-loop-text.ensures.within)
 
 pub loop-text-preserved : goal.loop-text-preserved
 loop-text-preserved c =
+    let passed =
     line-passed _ _ (sym c.is_empty.ensures ∙ c.loop-text-test.true) c.next_line-line.ensures _ _
     c.split_at-in-loop-text.ensures.front c.split_at.ensures.back
-    (c.in_default.ensures.none refl)
-    ∙ c.loop-text.invariant
+    (c.has_words.ensures.none c.if-has_words.false)
+    ∙ c.loop-text.invariant.0 in
+    (c.unindented-text-in-loop-text.ensures.same ∙ passed, passed, c.unindented-text-in-loop-text.ensures.first)
 
 pub returns-clause-steps : goal.returns-clause-steps
 returns-clause-steps c =
-    let none = lines-over c.loop-text.self.rest.now (sym c.is_empty.ensures ∙ c.loop-text-test.false) in
-    (sym c.loop-text.invariant ∙ none, none)
+    let none = lines-over c.loop-text.text.now (sym c.is_empty.ensures ∙ c.loop-text-test.false) in
+    (sym c.loop-text.invariant.0 ∙ none, c.loop-text.invariant.1 ∙ sym c.loop-text.invariant.0 ∙ none)
