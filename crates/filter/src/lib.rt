@@ -92,7 +92,8 @@ pub fn useful(n: u8, within: u16) -> Choices
     let end = power(inputs(n));
     let mut sets = [0u16; 256];
     let mut many = 0usize;
-    for set in subsets::all() {
+    // By reference: a loop over the array itself costs two copies of `sets`, and the C archive needs memcpy.
+    for &set in &subsets::all() {
         if end <= set {
             continue;
         }

@@ -18,13 +18,13 @@ pub loop-set-preserved-then-end-set : goal.loop-set-preserved-then-end-set
 loop-set-preserved-then-end-set c =
     let l = c.loop-set in
     let past =
-    rw (c.power-end.ensures.0, c.inputs.ensures.0, c.all-set-items.ensures) at c.if-end-set.true in
+    rw (c.power-end.ensures.0, c.inputs.ensures.0, c.all.ensures) at c.if-end-set.true in
     gathered-past _ _ l.set-index l.sets l.many l.invariant past
 
 pub loop-set-preserved : goal.loop-set-preserved
 loop-set-preserved c =
     let l = c.loop-set in
-    let all = c.all-set-items in
+    let all = c.all in
     let below =
     rw (c.power-end.ensures.0, c.inputs.ensures.0, all.ensures) at c.if-end-set.false in
     let told : contained c.args.within (useful_to (inputs_of c.args.n) c.args.within l.set-index) (get_or masks l.set-index 0) ≡ false =
@@ -36,7 +36,7 @@ loop-set-preserved-then-dominated c =
     let l = c.loop-set in
     gathered-contained _ _ l.set-index l.sets l.many l.invariant
     (sym (tested _ _ l.set-index l.sets l.many l.invariant)
-    ∙ sym (rw c.all-set-items.ensures at c.dominated.ensures)
+    ∙ sym (rw c.all.ensures at c.dominated.ensures)
     ∙ c.if-dominated.true)
 
 pub returns : goal.returns
