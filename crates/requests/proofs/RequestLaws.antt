@@ -113,6 +113,17 @@ first-broken (n ∷ s) l none =
     byBool (is_broken (request_at n s)) (λ e. broken-next n s ∙ rw e refl)
     (λ e. absurd (none-some _ (sym (rw e at none))))
 
+-- no more requests than bytes
+in-few : (most : ℕ) (s : List ℕ) → length (requests_in most s) ≤ most
+unfolding requests_in
+in-few zero s = omega arith
+in-few (suc most) [] = omega arith
+in-few (suc most) (n ∷ s) = omega (arith, in-few most (drop (table_bytes n) s))
+
+pub requests-few : (s : List ℕ) → length (requests_of s) ≤ length s
+unfolding requests_of
+requests-few s = in-few (length s) s
+
 -- where none is broken, there are no more requests than half as many bytes
 in-half : (most : ℕ) (s : List ℕ) → any is_broken (requests_in most s) ≡ false
     → 2 * length (requests_in most s) ≤ length s
