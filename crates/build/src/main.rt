@@ -3,7 +3,7 @@
 
 #![tactic(auto)]
 
-ghost use Rattle.std.specs.Prelude.{◌≤◌, length};
+ghost use Rattle.std.specs.Prelude.{◌≡◌, ◌≤◌, length};
 ghost use Rattle.block.specs.Refusal.{number_of};
 ghost use Rattle.listing.specs.Listing.{IsPrinted};
 
@@ -15,6 +15,19 @@ const ROOM: usize = 65537;
 
 // The longest line for each of 32,768 requests: a request has two bytes or more.
 const LINES_ROOM: usize = 819200;
+
+// Room for the build, and for its lines: the numbers are promised here, so that others in the constants are refused.
+fn room() -> [u8; ROOM]
+    ensures { 65537 ≡ length result }
+{
+    input::room()
+}
+
+fn lines_room() -> [u8; LINES_ROOM]
+    ensures { 819200 ≡ length result }
+{
+    input::room()
+}
 
 // A sentence that cannot be written is let go. This and `print` stand in each program: of what is written no contract
 // speaks, so that a public function would promise nothing.
@@ -44,7 +57,7 @@ fn meaning(refusal: Refusal) -> &'static str
 fn answer(rt: &(impl Print + Eprint), build: &[u8])
     requires { length build.now ≤ 65536 }
 {
-    let mut text = input::room::<LINES_ROOM>();
+    let mut text = lines_room();
     let said = listing::say(build, &mut text);
     let used = said.line.unwrap();
     print(rt, &text[..used]);
@@ -56,7 +69,7 @@ fn answer(rt: &(impl Print + Eprint), build: &[u8])
 // A build that is not read whole has no line.
 #[tactic(auto, using(input::proofs::RoomLaws::whole_within, input::proofs::RoomLaws::whole_taken))]
 fn main(rt: HostRuntime) {
-    let mut bytes = input::room::<ROOM>();
+    let mut bytes = room();
     match input::read(&mut rt.stdin(), &mut bytes) {
         Ok(Input::Whole(used)) => answer(&rt, &bytes[..used]),
         Ok(Input::Longer) => complain(&rt, "build: the build is longer than 65,536 bytes\n"),

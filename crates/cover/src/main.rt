@@ -3,6 +3,7 @@
 
 #![tactic(auto)]
 
+ghost use Rattle.std.specs.Prelude.{◌≡◌, length};
 ghost use Rattle.block.specs.Refusal.{number_of};
 ghost use Rattle.desk.specs.Desk.{IsTold};
 
@@ -17,6 +18,13 @@ use std::rt::{Env, Files};
 
 // The longest text, 1,048,576 bytes, and one byte more: what fills it is too long.
 const ROOM: usize = 1048577;
+
+// Room for it: the number is promised here, so that another one in the constant is refused.
+fn room() -> [u8; ROOM]
+    ensures { 1048577 ≡ length result }
+{
+    input::room()
+}
 
 // A sentence that cannot be written is let go. This and `print` stand in each program: of what is written no contract
 // speaks, so that a public function would promise nothing.
@@ -59,7 +67,7 @@ fn answer(rt: &(impl Print + Eprint), text: &[u8]) {
 // A text that is not read whole has no line.
 #[tactic(auto, using(input::proofs::RoomLaws::whole_within, input::proofs::RoomLaws::whole_taken))]
 fn answer_from<S: Read>(rt: &(impl Print + Eprint), from: &mut S) {
-    let mut text = input::room::<ROOM>();
+    let mut text = room();
     match input::read(from, &mut text) {
         Ok(Input::Whole(used)) => answer(rt, &text[..used]),
         Ok(Input::Longer) => complain(rt, "cover: the text is longer than 1,048,576 bytes\n"),

@@ -1,5 +1,5 @@
 // A sheet's file: read whole, and replaced by a longer sheet or left as it was.
-ghost use Rattle.std.specs.Prelude.{◌≤◌, length, IfSome};
+ghost use Rattle.std.specs.Prelude.{◌≡◌, ◌≤◌, length, IfSome};
 
 use crate::say;
 use input::Input;
@@ -12,6 +12,13 @@ use std::{fs, io};
 
 // The longest sheet, and one byte more: what fills it is too long.
 pub const SHEET_ROOM: usize = MOST_RECORDS * RECORD_BYTES + 1;
+
+// Room for it: the number is promised here, so that another one in the constant is refused.
+pub(crate) fn room() -> [u8; SHEET_ROOM]
+    ensures { 65535 ≡ length result }
+{
+    input::room()
+}
 
 // The names of a sheet's file and of the new one beside it.
 #[derive(Clone, Copy)]

@@ -5,10 +5,11 @@
 mod file;
 mod say;
 
+ghost use Rattle.std.specs.Prelude.{◌≡◌, length};
 ghost use Rattle.sheet.specs.Adding.{Adds};
 
 use columns::RECORD_LINE;
-use file::{Names, SHEET_ROOM};
+use file::Names;
 use input::Input;
 use record::{Numbers, Refused};
 use records::MOST_RECORDS;
@@ -30,6 +31,25 @@ const LIST_ROOM: usize = MOST_RECORDS * RECORD_LINE;
 // The longest text of a cover, 1,048,576 bytes, and one byte more: what fills it is too long.
 const TEXT_ROOM: usize = 1048577;
 
+// Room for these: the numbers are promised here, so that others in the constants are refused.
+fn list_room() -> [u8; LIST_ROOM]
+    ensures { 201283 ≡ length result }
+{
+    input::room()
+}
+
+fn text_room() -> [u8; TEXT_ROOM]
+    ensures { 1048577 ≡ length result }
+{
+    input::room()
+}
+
+fn word_room() -> [u8; WORD_ROOM]
+    ensures { 4096 ≡ length result }
+{
+    input::room()
+}
+
 fn check(rt: &(impl Print + Eprint), s: &[u8]) {
     match records::check(s) {
         Ok(count) => say::count(rt, count),
@@ -38,7 +58,7 @@ fn check(rt: &(impl Print + Eprint), s: &[u8]) {
 }
 
 fn list(rt: &(impl Print + Eprint), s: &[u8]) {
-    let mut out = input::room::<LIST_ROOM>();
+    let mut out = list_room();
     match columns::of_sheet(s, &mut out) {
         Ok(used) => say::print(rt, &out[..used]),
         Err(refused) => say::refusal(rt, refused.refusal, refused.place),
@@ -65,12 +85,12 @@ fn find(rt: &(impl Print + Eprint), s: &[u8], craft: u32, block: u32) {
 fn look<R: Env + Files + Print + Eprint, F: FnOnce(&[u8])>(rt: &R, answer: F)
     requires { F.IsAlwaysCallable answer }
 {
-    let mut name = [0u8; WORD_ROOM];
+    let mut name = word_room();
     let Ok(length) = rt.arg(2, &mut name) else {
         say::long_name(rt);
         return;
     };
-    let mut sheet = input::room::<SHEET_ROOM>();
+    let mut sheet = file::room();
     if let Some(used) = file::read(rt, &name[..length], &mut sheet) {
         answer(&sheet[..used]);
     }
@@ -132,7 +152,7 @@ fn add_to(rt: &(impl Files + Print + Eprint), names: Names, order: Order, given:
     let Some(file) = file::create(rt, names) else {
         return;
     };
-    let mut sheet = input::room::<SHEET_ROOM>();
+    let mut sheet = file::room();
     match file::read(rt, names.sheet, &mut sheet) {
         Some(used) => add_record(rt, names, file, &mut sheet, used, order, given),
         None => file::discard(rt, file, names),
@@ -141,7 +161,7 @@ fn add_to(rt: &(impl Files + Print + Eprint), names: Names, order: Order, given:
 
 // Adds to the file that argument 2 names. The new sheet is written beside it, in FILE.new.
 fn add(rt: &(impl Env + Files + Print + Eprint), order: Order, given: &[u8]) {
-    let mut name = [0u8; WORD_ROOM];
+    let mut name = word_room();
     let Ok(length) = rt.arg(2, &mut name) else {
         say::long_name(rt);
         return;
@@ -162,7 +182,7 @@ fn add(rt: &(impl Env + Files + Print + Eprint), order: Order, given: &[u8]) {
 
 // The number that argument i, so named in the command, spells; where it spells none, that is said.
 fn number(rt: &(impl Env + Eprint), i: usize, name: &str) -> Option<u32> {
-    let mut word = [0u8; WORD_ROOM];
+    let mut word = word_room();
     let length = rt.arg(i, &mut word).unwrap_or(0);
     let number = digits::number_in(&word[..length]);
     if number.is_none() {
@@ -173,7 +193,7 @@ fn number(rt: &(impl Env + Eprint), i: usize, name: &str) -> Option<u32> {
 
 #[tactic(auto, using(input::proofs::RoomLaws::whole_within, input::proofs::RoomLaws::whole_taken))]
 fn add_cover(rt: &(impl Env + Files + io::Input + Print + Eprint), craft: u32, block: u32) {
-    let mut text = input::room::<TEXT_ROOM>();
+    let mut text = text_room();
     let order = Order {
         craft,
         block,
@@ -190,7 +210,7 @@ fn add_block(rt: &(impl Env + Files + Print + Eprint), craft: u32, block: u32) {
     let Some(n) = number(rt, 5, "N") else {
         return;
     };
-    let mut ten = [0u8; WORD_ROOM];
+    let mut ten = word_room();
     let Ok(length) = rt.arg(6, &mut ten) else {
         say::no_bytes(rt);
         return;
@@ -259,7 +279,7 @@ fn word_count(rt: &impl Env) -> usize {
 }
 
 fn main(rt: HostRuntime) {
-    let mut command = [0u8; WORD_ROOM];
+    let mut command = word_room();
     let length = rt.arg(1, &mut command).unwrap_or(0);
     obey(&rt, &command[..length], word_count(&rt));
 }

@@ -7,11 +7,11 @@ use Rattle.build.proofs.answer.Goals as goal
 
 pub unwrap-used-requires : goal.unwrap-used-requires
 unwrap-used-requires g c =
-    success _ _ _ (prints-fits _ _ _ _ (omega (arith, c.room-text.ensures.size)) c.say-said.ensures)
+    success _ _ _ (prints-fits _ _ _ _ (omega (arith, c.lines_room-text.ensures)) c.say-said.ensures)
 
 pub meaning-requires : goal.meaning-requires
 meaning-requires g c =
-    rw c.in-Some.is at (prints-numbers _ _ _ _ (omega (arith, c.room-text.ensures.size, c.requires)) c.say-said.ensures)
+    rw c.in-Some.is at (prints-numbers _ _ _ _ (omega (arith, c.lines_room-text.ensures, c.requires)) c.say-said.ensures)
 
 pub slice_bounds-text-end : goal.slice_bounds-text-end
 slice_bounds-text-end g c =
