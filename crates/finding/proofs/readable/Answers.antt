@@ -1,4 +1,5 @@
 -- `finding::readable` meets its contract: the sheet decides, then the place.
+use native.Mathlib.Omega.{arith}
 use Rattle.std.proofs.lemmas.Result.{err_from_is_err_and}
 use Rattle.finding.proofs.ReadLaws.{read-stops, refuses-12, tells-count}
 use Rattle.finding.proofs.readable.Goals as goal
@@ -10,7 +11,7 @@ returns-in_err-count c =
 
 pub returns-then-count-place : goal.returns-then-count-place
 returns-then-count-place c =
-    rw c.into.ensures (refuses-12 _ _ _ c.in_ok-count.ensures _ c.if-count-place.true)
+    rw c.into.ensures (refuses-12 _ _ _ c.in_ok-count.ensures _ (omega arith))
 
 pub returns : goal.returns
-returns c = tells-count _ _ _ c.in_ok-count.ensures c.if-count-place.false
+returns c = tells-count _ _ _ c.in_ok-count.ensures (omega arith)
