@@ -135,9 +135,8 @@ fn add_record<R: Files + Print + Eprint>(
 ) {
     match append_to(sheet, used, order, given) {
         Ok(longer) => {
-            let sheet = &sheet[..longer];
-            if file::keep(rt, file, names, sheet) {
-                find(rt, sheet, order.craft, order.block);
+            if file::keep(rt, file, names, &sheet[..longer]) {
+                find(rt, &sheet[..longer], order.craft, order.block);
             }
         }
         Err(refused) => {
