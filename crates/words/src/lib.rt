@@ -213,6 +213,7 @@ impl<'a> Iterator for Lines<'a> {
             }
             text = unindented(rest);
         }
+        self.rest = text;
         None
     }
 }
